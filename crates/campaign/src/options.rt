@@ -1,0 +1,44 @@
+// What the program is asked for on its command line: TABLE [SIZE [SPARES]].
+use std::env;
+use std::error::AnyError;
+
+const USAGE: &str =
+    "usage: campaign TABLE [SIZE [SPARES]]: a pitch table's file, bytes in a fragment (1 to 239), fragments to spare";
+
+/// The file of the table, the size of a fragment, and how many fragments to send beyond the block's own.
+#[derive(Drop)]
+pub struct Options {
+    pub table: String,
+    pub size: u8,
+    pub spares: u16,
+}
+
+// 48 bytes and a message's first three are what the slowest data rate carries.
+const SIZE: u8 = 48;
+
+const SPARES: u16 = 8;
+
+/// The options, or how to give them.
+pub fn read_options(rt: &LibcRuntime) -> Result<Options, AnyError> {
+    let mut args = env::args(rt)?;
+    let _ = args.next();
+    let Some(table) = args.next() else {
+        return Err(USAGE.into());
+    };
+    let size = match args.next() {
+        Some(text) => text.as_str().parse::<u8>(),
+        None => Ok(SIZE),
+    };
+    let spares = match args.next() {
+        Some(text) => text.as_str().parse::<u16>(),
+        None => Ok(SPARES),
+    };
+    let (Ok(size), Ok(spares), None) = (size, spares, args.next()) else {
+        return Err(USAGE.into());
+    };
+    Ok(Options {
+        table,
+        size,
+        spares,
+    })
+}

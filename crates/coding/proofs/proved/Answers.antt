@@ -1,0 +1,17 @@
+use mathlib.Core.Path.{refl}
+use Rattle.coding.proofs.Theorems.{coding-linear, reducing-keeps, always-a-block, two-where-empty, lines-stand-for, missing-least, settled-block, contradiction-exact}
+use Rattle.coding.proofs.proved.Needs as need
+
+pub returns : need.returns
+returns c =
+    record {
+      count = refl;
+      linear = coding-linear;
+      reducing = reducing-keeps;
+      some = always-a-block;
+      two = two-where-empty;
+      lines = lines-stand-for;
+      missing = missing-least;
+      settled = settled-block;
+      contradicts = contradiction-exact;
+    }

@@ -1,0 +1,35 @@
+// How many fragments a block has, and how much filler the last one.
+ghost use mathlib.Core.Path.{_≡_};
+ghost use Rattle.cutting.specs.Layouts.{layoutOf, Exact};
+
+/// The largest number of fragments of a block.
+pub const MOST_FRAGMENTS: u16 = 256;
+
+/// The largest size of a fragment, in bytes.
+pub const LARGEST_FRAGMENT: u8 = 239;
+
+/// A block's number of fragments (NbFrag, M) and the filler bytes at its end (padding).
+#[derive(Clone, Copy, PartialEq, Eq, Debug)]
+pub struct Layout {
+    pub fragments: u16,
+    pub padding: u8,
+}
+
+/// The layout of a block of `length` bytes in fragments of `size` bytes (1–239); none where it has no byte or wants more than 256.
+pub fn layout_of(length: u32, size: u8) -> Option<Layout>
+    ensures answer { λ r. ⌜ r ≡ layoutOf length size ⌝ }
+    ensures exact { λ r. ⌜ Exact length size r ⌝ }
+{
+    if size == 0 || size > LARGEST_FRAGMENT || length == 0 {
+        return None;
+    }
+    let s = u32::from(size);
+    let m = (length - 1) / s + 1;
+    if m > u32::from(MOST_FRAGMENTS) {
+        return None;
+    }
+    Some(Layout {
+        fragments: m as u16,
+        padding: (m * s - length) as u8,
+    })
+}

@@ -1,0 +1,3 @@
+// Tests of pitch tables, as blocks and as text.
+#[cfg(test)]
+mod tests;

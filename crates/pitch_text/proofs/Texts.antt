@@ -1,0 +1,49 @@
+-- Reading a text, a line at a time. Assumes nothing.
+use mathlib.Core.Path.{_≡_, sym, ap, _∙_}
+use mathlib.Core.Bool.{Bool, true, false, cond}
+use mathlib.Core.List.{List, _∷_, []}
+use mathlib.Core.Logic.{_⊎_, inl, inr}
+use Prim.Native.Nat.{ℕ, _+_, _-_, _<_, _≤_}
+use native.Mathlib.Omega.{arith}
+use lib.Dec.{eqb}
+use lib.ListN.{length}
+use Rattle.std.specs.declared.result.Result.{Result}
+use Rattle.std.specs.declared.result.Result.the-variants.{Ok, Err}
+use Rattle.std.proofs.shelf.Lists.{length-drop}
+use Rattle.pitch_text.specs.declared.text.What.{What}
+use Rattle.pitch_text.specs.declared.text.What.the-variants.{Memory}
+use Rattle.pitch_text.specs.declared.text.TextFault.{TextFault}
+use Rattle.pitch.specs.Block.{Parts}
+use Rattle.pitch_text.specs.Words.{from, before, after, linesOf}
+use Rattle.pitch_text.specs.Text.{Sofar, rowIn, lineTaken, goOn, readLines, atEnd}
+use Rattle.pitch_text.proofs.Scans.{lines-more}
+
+from-le : (p : ℕ → Bool) (xs : List ℕ) → length (from p xs) ≤ length xs
+from-le p [] = omega arith
+from-le p (x ∷ xs) = elim (p x) as (λ b. length (cond b (x ∷ xs) (from p xs)) ≤ length (x ∷ xs)) [ true ↦ omega arith | false ↦ omega (arith, from-le p xs) ]
+
+-- the rest of a text is shorter than the text
+pub after-less : (xs : List ℕ) → 0 < length xs → length (after 10 xs) < length xs
+after-less xs h = omega (arith, length-drop 1 (from (λ y. eqb y 10) xs), from-le (λ y. eqb y 10) xs)
+
+pub lines-cut : (xs : List ℕ) → 0 < length xs → linesOf xs ≡ before 10 xs ∷ linesOf (after 10 xs)
+lines-cut [] h = absurd (omega arith)
+lines-cut (x ∷ xs) h = lines-more x xs
+
+module _ (n : ℕ) (s : Sofar) (rest one more : List ℕ) (want : Result Parts TextFault) (some : 0 < length rest) (first : one ≡ before 10 rest) (others : more ≡ after 10 rest) (inv : readLines n s (linesOf rest) ≡ want) where
+  unfolded : goOn (n + 1) (lineTaken (rowIn one) s) (λ t. readLines (n + 1) t (linesOf more)) ≡ want
+  unfolded = rw (first, others) (sym (ap (readLines n s) (lines-cut rest some)) ∙ inv)
+
+  -- a line was read
+  pub read-line : (t : Sofar) → lineTaken (rowIn one) s ≡ Ok t → readLines (n + 1) t (linesOf more) ≡ want
+  read-line t e = rw e at unfolded
+
+  -- a line was refused
+  pub refused : (w : What) → (lineTaken (rowIn one) s ≡ Err w) ⊎ (w ≡ Memory) → (want ≡ Err (record { line = n + 1; what = w })) ⊎ (w ≡ Memory)
+  refused w (inl e) = inl (sym (rw e at unfolded))
+  refused w (inr e) = inr e
+
+-- no line is left
+pub read-end : (n : ℕ) (s : Sofar) (rest : List ℕ) (want : Result Parts TextFault) → length rest ≡ 0 → readLines n s (linesOf rest) ≡ want → atEnd n s ≡ want
+read-end n s [] want none inv = inv
+read-end n s (x ∷ xs) want none inv = absurd (omega arith)

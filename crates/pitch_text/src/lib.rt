@@ -1,0 +1,4 @@
+// Pitch tables as text, as a machinist writes them.
+pub mod show;
+pub mod text;
+mod words;

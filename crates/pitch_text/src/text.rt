@@ -1,0 +1,212 @@
+// Pitch tables as text: `axis X`, `screw 17`, then a line for each millimetre with the forward and the return error in micrometres.
+ghost use mathlib.Core.Path.{_≡_};
+ghost use Rattle.std.specs.declared.option.Option.the-variants.{Some};
+ghost use Rattle.pitch_text.specs.Text.{messageOf, faultText, pairRow, axisRow, rowIn, sofarOf, named, numbered, added, lineTaken, Takes, atEnd, readText, Reads};
+use crate::words::cut;
+use crate::words::is_same;
+use crate::words::next_word;
+use crate::words::number;
+use crate::words::signed;
+use pitch::table::Axis;
+use pitch::table::Entry;
+use pitch::table::Table;
+use pitch::table::TableFault;
+use std::alloc::Global;
+use std::fmt;
+
+/// What is wrong with a line.
+#[derive(Clone, Copy, PartialEq, Eq, Debug)]
+pub enum What {
+    Memory,
+    Axis,
+    Screw,
+    Words,
+    Number,
+    TooMany,
+    Early,
+    Twice,
+    Missing,
+}
+
+/// What is wrong, and in which line, from 1.
+#[derive(Clone, Copy, PartialEq, Eq, Debug)]
+pub struct TextFault {
+    pub line: usize,
+    pub what: What,
+}
+
+fn message(what: What) -> &'static str
+    ensures { λ r. ⌜ now r ≡ messageOf what ⌝ }
+{
+    match what {
+        What::Memory => "no memory",
+        What::Axis => "the axis is not X, Y or Z",
+        What::Screw => "the number of the screw is not 0 to 65535",
+        What::Words => "neither an axis, a screw nor two errors",
+        What::Number => "an error is not -32768 to 32767",
+        What::TooMany => "more than 2000 millimetres",
+        What::Early => "errors before the axis and the screw",
+        What::Twice => "the axis or the screw for the second time",
+        What::Missing => "the text ends without an axis or a screw",
+    }
+}
+
+pub impl fmt::Display for TextFault as TextFaultDisplay {
+    ghost shown = { λ f. Some (faultText f) };
+
+    fn fmt<W: fmt::Write>(&self, f: &mut fmt::Formatter<W>) -> fmt::Result {
+        let line = self.line;
+        let text = message(self.what);
+        write!(f, "line {line}: {text}")
+    }
+}
+
+// What one line says.
+#[derive(Clone, Copy)]
+enum Row {
+    Named(Axis),
+    Numbered(u16),
+    Errors(Entry),
+    Nothing,
+}
+
+// What is known so far.
+#[derive(Drop)]
+enum Reading {
+    Start,
+    HasAxis(Axis),
+    HasScrew(u16),
+    Ready(Table),
+}
+
+fn axis_row(word: &[u8]) -> Result<Row, What>
+    ensures { λ r. ⌜ r ≡ axisRow (now (word .entry)) ⌝ }
+{
+    if is_same(word, b"X") {
+        return Ok(Row::Named(Axis::X));
+    }
+    if is_same(word, b"Y") {
+        return Ok(Row::Named(Axis::Y));
+    }
+    if is_same(word, b"Z") {
+        return Ok(Row::Named(Axis::Z));
+    }
+    Err(What::Axis)
+}
+
+// What a line of two words says.
+fn pair_row(first: &[u8], second: &[u8]) -> Result<Row, What>
+    ensures { λ r. ⌜ r ≡ pairRow (now (first .entry)) (now (second .entry)) ⌝ }
+{
+    if is_same(first, b"axis") {
+        return axis_row(second);
+    }
+    if is_same(first, b"screw") {
+        return match number(second, 65535) {
+            Some(screw) => Ok(Row::Numbered(screw)),
+            None => Err(What::Screw),
+        };
+    }
+    let Some(forward) = signed(first) else {
+        return Err(What::Number);
+    };
+    let Some(back) = signed(second) else {
+        return Err(What::Number);
+    };
+    Ok(Row::Errors(Entry { forward, back }))
+}
+
+fn row_in(line: &[u8]) -> Result<Row, What>
+    ensures { λ r. ⌜ r ≡ rowIn (now (line .entry)) ⌝ }
+{
+    let (said, _) = cut(line, b'#');
+    let (first, rest) = next_word(said);
+    if first.is_empty() {
+        return Ok(Row::Nothing);
+    }
+    let (second, rest) = next_word(rest);
+    let (third, _) = next_word(rest);
+    if second.is_empty() || !third.is_empty() {
+        return Err(What::Words);
+    }
+    pair_row(first, second)
+}
+
+impl Reading {
+    fn name(self, heap: Global, axis: Axis) -> Result<Reading, What>
+        ensures { λ r. ⌜ Takes r (named axis (sofarOf self)) ⌝ }
+    {
+        match self {
+            Reading::Start => Ok(Reading::HasAxis(axis)),
+            Reading::HasScrew(screw) => Ok(Reading::Ready(Table::new(heap, axis, screw))),
+            Reading::HasAxis(_) | Reading::Ready(_) => Err(What::Twice),
+        }
+    }
+
+    fn number(self, heap: Global, screw: u16) -> Result<Reading, What>
+        ensures { λ r. ⌜ Takes r (numbered screw (sofarOf self)) ⌝ }
+    {
+        match self {
+            Reading::Start => Ok(Reading::HasScrew(screw)),
+            Reading::HasAxis(axis) => Ok(Reading::Ready(Table::new(heap, axis, screw))),
+            Reading::HasScrew(_) | Reading::Ready(_) => Err(What::Twice),
+        }
+    }
+
+    fn add(self, entry: Entry) -> Result<Reading, What>
+        ensures { λ r. ⌜ Takes r (added entry (sofarOf self)) ⌝ }
+    {
+        let Reading::Ready(mut table) = self else {
+            return Err(What::Early);
+        };
+        match table.add(entry) {
+            Ok(()) => Ok(Reading::Ready(table)),
+            Err(TableFault::Memory) => Err(What::Memory),
+            Err(TableFault::TooMany) => Err(What::TooMany),
+        }
+    }
+
+    // Reads one more line.
+    fn take(self, heap: Global, line: &[u8]) -> Result<Reading, What>
+        ensures { λ r. ⌜ Takes r (lineTaken (rowIn (now (line .entry))) (sofarOf self)) ⌝ }
+    {
+        match row_in(line) {
+            Ok(Row::Named(axis)) => self.name(heap, axis),
+            Ok(Row::Numbered(screw)) => self.number(heap, screw),
+            Ok(Row::Errors(entry)) => self.add(entry),
+            Ok(Row::Nothing) => Ok(self),
+            Err(what) => Err(what),
+        }
+    }
+}
+
+fn table_of(reading: Reading, line: usize) -> Result<Table, TextFault>
+    ensures { λ r. ⌜ Reads r (atEnd line (sofarOf reading)) ⌝ }
+{
+    let Reading::Ready(table) = reading else {
+        return Err(TextFault {
+            line,
+            what: What::Missing,
+        });
+    };
+    Ok(table)
+}
+
+/// Reads a table.
+pub fn read_table(heap: Global, text: &[u8]) -> Result<Table, TextFault>
+    ensures { λ r. ⌜ Reads r (readText (now (text .entry))) ⌝ }
+{
+    let mut reading = Reading::Start;
+    let mut line = 0;
+    let mut rest = text;
+    while !rest.is_empty() {
+        let (one, more) = cut(rest, b'\n');
+        line += 1;
+        reading = match reading.take(heap, one) {
+            Ok(next) => next,
+            Err(what) => return Err(TextFault { line, what }),
+        };
+        rest = more;
+    }
+    table_of(reading, line)
+}

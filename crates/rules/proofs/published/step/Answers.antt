@@ -1,0 +1,9 @@
+use native.Mathlib.Omega.{arith}
+use Rattle.rules.proofs.Steps.{fed-below, step-code}
+use Rattle.rules.proofs.published.step.Needs as need
+
+pub add-result : need.add-result
+add-result c = record { fits = omega (arith, fed-below (c .args .x)) }
+
+pub returns : need.returns
+returns c = step-code (c .args .x)

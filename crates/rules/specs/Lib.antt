@@ -1,0 +1,4 @@
+pub mod Filling
+pub mod Repeats
+pub mod Draws
+pub mod Bound

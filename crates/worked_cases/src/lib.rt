@@ -1,0 +1,339 @@
+// Worked cases: proved over the definitions, and rows that others printed, run through the code.
+ghost use mathlib.Core.Path.{_≡_};
+ghost use lib.ListN.{length};
+ghost use Rattle.worked_cases.specs.Table.{table, All-hold};
+
+// The proof is cited here, so that the public function has no proof file of its own.
+fn computed() -> usize
+    ensures count { λ r. ⌜ r ≡ length table ⌝ }
+    ensures cases { λ _. ⌜ All-hold table ⌝ }
+{
+    9
+}
+
+/// Every case of the table holds of the definitions that rules and decoding are proved against. Answers how many there are.
+pub fn cases_hold() -> usize
+    ensures count { λ r. ⌜ r ≡ length table ⌝ }
+    ensures cases { λ _. ⌜ All-hold table ⌝ }
+{
+    computed()
+}
+
+#[cfg(test)]
+mod tests {
+    use rules::line_rule::LineRule;
+    use rules::line_rule::RowFault;
+    use rules::line_rule::RowFaultDebug;
+    use rules::line_rule::RowFaultPartialEq;
+    use rules::published::Published;
+    use rules::published::PublishedRule;
+    use rules::repeat::Repeat;
+    use rules::repeat::RepeatRule;
+    use std::test::*;
+
+    // Nine rows of a 25 × 25 parity matrix that a radio vendor printed: row Y is the row of number 25 + Y.
+    const PRINTED: [(u16, [u8; 25]); 9] = [
+        (
+            2,
+            [
+                0,
+                0,
+                1,
+                0,
+                0,
+                1,
+                0,
+                0,
+                0,
+                1,
+                0,
+                1,
+                0,
+                0,
+                1,
+                1,
+                0,
+                1,
+                0,
+                1,
+                0,
+                1,
+                0,
+                1,
+                0,
+            ],
+        ),
+        (
+            3,
+            [
+                1,
+                1,
+                0,
+                1,
+                1,
+                0,
+                1,
+                0,
+                1,
+                1,
+                0,
+                1,
+                1,
+                0,
+                0,
+                1,
+                0,
+                0,
+                1,
+                0,
+                0,
+                0,
+                1,
+                0,
+                0,
+            ],
+        ),
+        (
+            5,
+            [
+                1,
+                0,
+                1,
+                1,
+                1,
+                1,
+                0,
+                0,
+                1,
+                0,
+                0,
+                0,
+                1,
+                1,
+                0,
+                0,
+                1,
+                0,
+                1,
+                0,
+                0,
+                0,
+                0,
+                1,
+                1,
+            ],
+        ),
+        (
+            6,
+            [
+                0,
+                1,
+                0,
+                1,
+                1,
+                0,
+                1,
+                1,
+                0,
+                1,
+                0,
+                0,
+                0,
+                0,
+                0,
+                1,
+                0,
+                0,
+                1,
+                0,
+                1,
+                0,
+                0,
+                0,
+                0,
+            ],
+        ),
+        (
+            7,
+            [
+                1,
+                0,
+                0,
+                1,
+                1,
+                0,
+                1,
+                1,
+                1,
+                0,
+                0,
+                0,
+                0,
+                0,
+                0,
+                0,
+                1,
+                0,
+                1,
+                0,
+                1,
+                0,
+                0,
+                0,
+                0,
+            ],
+        ),
+        (
+            8,
+            [
+                0,
+                0,
+                0,
+                1,
+                1,
+                1,
+                1,
+                0,
+                1,
+                0,
+                0,
+                1,
+                0,
+                1,
+                1,
+                0,
+                0,
+                0,
+                0,
+                1,
+                0,
+                0,
+                1,
+                1,
+                0,
+            ],
+        ),
+        (
+            9,
+            [
+                0,
+                0,
+                0,
+                0,
+                1,
+                0,
+                1,
+                0,
+                1,
+                1,
+                0,
+                1,
+                0,
+                0,
+                0,
+                1,
+                0,
+                1,
+                1,
+                0,
+                0,
+                0,
+                0,
+                0,
+                0,
+            ],
+        ),
+        (
+            21,
+            [
+                0,
+                0,
+                0,
+                0,
+                0,
+                0,
+                0,
+                0,
+                1,
+                1,
+                0,
+                1,
+                0,
+                1,
+                0,
+                0,
+                0,
+                1,
+                1,
+                1,
+                1,
+                1,
+                1,
+                0,
+                0,
+            ],
+        ),
+        (
+            25,
+            [
+                0,
+                0,
+                0,
+                0,
+                0,
+                1,
+                1,
+                1,
+                0,
+                1,
+                1,
+                0,
+                0,
+                1,
+                0,
+                0,
+                0,
+                0,
+                0,
+                1,
+                1,
+                1,
+                0,
+                1,
+                1,
+            ],
+        ),
+    ];
+
+    #[test]
+    fn printed_rows() -> Result<(), Fail> {
+        for (y, row) in PRINTED {
+            let mut marks = [false; 25];
+            Published.fill(0, 25, 25 + y, &mut marks)?;
+            for (mark, bit) in marks.iter().zip(row.iter()) {
+                check_eq(*mark, *bit == 1)?;
+            }
+        }
+        Ok(())
+    }
+
+    #[test]
+    fn short_before_none() -> Result<(), Fail> {
+        let mut marks = [true; 4];
+        check_eq(Published.fill(0, 5, 12, &mut marks), Err(RowFault::Short))?;
+        check_eq(Repeat.fill(0, 5, 1, &mut marks), Err(RowFault::Short))?;
+        check_eq(Published.fill(0, 4, 0, &mut marks), Err(RowFault::NoRow))?;
+        check_eq(Repeat.fill(0, 4, 1, &mut marks), Err(RowFault::NoRow))?;
+        check_eq(Repeat.fill(7, 4, 16384, &mut marks), Err(RowFault::NoRow))?;
+        check_eq(marks, [true; 4])
+    }
+
+    #[test]
+    fn rest_stays() -> Result<(), Fail> {
+        let mut marks = [true; 6];
+        Published.fill(0, 5, 12, &mut marks)?;
+        check_eq(marks, [false, false, false, true, false, true])?;
+        Repeat.fill(7, 3, 5, &mut marks)?;
+        check_eq(marks, [false, true, false, true, false, true])
+    }
+}
