@@ -105,7 +105,7 @@ fn load(heap: Global, line: &Line<'_>, text: &str) -> Result<Command, Wrong> {
 }
 
 /// The command on a line, or none where the line is empty.
-pub fn command_of(heap: Global, text: &str) -> Result<Option<Command>, Wrong> {
+pub(crate) fn command_of(heap: Global, text: &str) -> Result<Option<Command>, Wrong> {
     let line = Line::split(heap, text)?;
     let command = match line.words.as_slice() {
         [] => {

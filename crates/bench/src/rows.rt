@@ -65,7 +65,7 @@ fn fill<R: LineRule>(
 }
 
 /// The answer to `serves`.
-pub fn serves(rule: RuleName, algo: u8, m: u16) -> &'static str {
+pub(crate) fn serves(rule: RuleName, algo: u8, m: u16) -> &'static str {
     let yes = match rule {
         RuleName::Published => Published.serves(algo, m),
         RuleName::Repeat => Repeat.serves(algo, m),
@@ -74,7 +74,7 @@ pub fn serves(rule: RuleName, algo: u8, m: u16) -> &'static str {
 }
 
 /// The answer to `row`.
-pub fn row(
+pub(crate) fn row(
     heap: Global,
     rule: RuleName,
     algo: u8,

@@ -33,7 +33,7 @@ pub struct Line<'a> {
 
 impl<'a> Line<'a> {
     /// Splits a line at its spaces.
-    pub fn split(heap: Global, text: &'a str) -> Result<Line<'a>, Wrong> {
+    pub(crate) fn split(heap: Global, text: &'a str) -> Result<Line<'a>, Wrong> {
         let mut words = Vec::new(heap);
         let mut pairs = Vec::new(heap);
         for word in text.split_whitespace() {
@@ -46,7 +46,7 @@ impl<'a> Line<'a> {
     }
 
     /// The value of a key.
-    pub fn value(&self, key: &str) -> Option<&'a str> {
+    pub(crate) fn value(&self, key: &str) -> Option<&'a str> {
         for (k, v) in self.pairs.iter() {
             if *k == key {
                 return Some(*v);
@@ -56,7 +56,7 @@ impl<'a> Line<'a> {
     }
 
     /// Refuses every key.
-    pub fn no_keys(&self) -> Result<(), Wrong> {
+    pub(crate) fn no_keys(&self) -> Result<(), Wrong> {
         if self.pairs.is_empty() {
             Ok(())
         } else {
@@ -65,7 +65,7 @@ impl<'a> Line<'a> {
     }
 
     /// Refuses a key that is not among `keys`, and one that stands twice.
-    pub fn only_keys(&self, keys: &[&str]) -> Result<(), Wrong> {
+    pub(crate) fn only_keys(&self, keys: &[&str]) -> Result<(), Wrong> {
         for (i, (k, _)) in self.pairs.iter().enumerate() {
             if !(&*keys).contains(k) {
                 return Err(Wrong);
@@ -81,7 +81,7 @@ impl<'a> Line<'a> {
 }
 
 /// The line without its comment.
-pub fn uncommented(line: &[u8]) -> &[u8] {
+pub(crate) fn uncommented(line: &[u8]) -> &[u8] {
     for (i, b) in line.iter().enumerate() {
         if *b == b'#' {
             return &line[0..i];
@@ -91,7 +91,7 @@ pub fn uncommented(line: &[u8]) -> &[u8] {
 }
 
 /// A number in decimal digits, or in hexadecimal ones after `0x`, up to `most`.
-pub fn number(text: &str, most: u64) -> Result<u64, Wrong>
+pub(crate) fn number(text: &str, most: u64) -> Result<u64, Wrong>
     ensures { λ r. ⌜ made r (λ n. n ≤ most) ⌝ }
 {
     let (digits, radix) = match text.strip_prefix("0x") {
@@ -112,17 +112,17 @@ pub fn number(text: &str, most: u64) -> Result<u64, Wrong>
 }
 
 /// A number of one byte.
-pub fn byte(text: &str) -> Result<u8, Wrong> {
+pub(crate) fn byte(text: &str) -> Result<u8, Wrong> {
     Ok(number(text, 255)? as u8)
 }
 
 /// A number of two bytes.
-pub fn short(text: &str) -> Result<u16, Wrong> {
+pub(crate) fn short(text: &str) -> Result<u16, Wrong> {
     Ok(number(text, 65535)? as u16)
 }
 
 /// A number of four bytes.
-pub fn long(text: &str) -> Result<u32, Wrong> {
+pub(crate) fn long(text: &str) -> Result<u32, Wrong> {
     Ok(number(text, 4294967295)? as u32)
 }
 
@@ -139,7 +139,7 @@ fn digit(b: u8) -> Option<u8>
 }
 
 /// Bytes of two digits each; `-` is no byte.
-pub fn bytes(heap: Global, text: &str) -> Result<Vec<u8>, Wrong>
+pub(crate) fn bytes(heap: Global, text: &str) -> Result<Vec<u8>, Wrong>
     ensures { λ r. ⌜ made r (λ v. 2 * vec-len v ≤ length (now (text .entry))) ⌝ }
 {
     let mut out = Vec::new(heap);

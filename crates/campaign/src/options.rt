@@ -19,7 +19,7 @@ const SIZE: u8 = 48;
 const SPARES: u16 = 8;
 
 /// The options, or how to give them.
-pub fn read_options(rt: &LibcRuntime) -> Result<Options, AnyError> {
+pub(crate) fn read_options(rt: &LibcRuntime) -> Result<Options, AnyError> {
     let mut args = env::args(rt)?;
     let _ = args.next();
     let Some(table) = args.next() else {

@@ -45,6 +45,7 @@ fourOf e = (ofZ w16 (e .forward) % 256) ∷ (ofZ w16 (e .forward) / 256 % 256) �
 abbrev pub headOf : Axis → ℕ → ℕ → List ℕ
 headOf a s n = 80 ∷ 84 ∷ code a ∷ (s % 256) ∷ (s / 256 % 256) ∷ (n % 256) ∷ (n / 256 % 256) ∷ 0 ∷ []
 
+-- the block of a table
 abbrev pub blockOf : Parts → List ℕ
 blockOf p = headOf (p .axis) (p .screw) (length (p .entries)) ++ joined fourOf (p .entries)
 
@@ -72,6 +73,7 @@ axisOf b = cond (eqb b 0) (Some X) (cond (eqb b 1) (Some Y) (cond (eqb b 2) (Som
 abbrev pub headed : List ℕ → Bool
 headed bs = leb 8 (length bs) && eqb (getD bs 0 0) 80 && eqb (getD bs 1 0) 84 && eqb (getD bs 7 0) 0
 
+-- the faults of the count and of the length, in this order
 abbrev pub sized : List ℕ → Axis → Result Parts PitchFault
 sized bs a = cond (leb (countIn bs) 2000)
     (cond (eqb (length bs) (8 + 4 * countIn bs)) (Ok (record { axis = a; screw = screwIn bs; entries = entriesIn bs (countIn bs) })) (Err Length))

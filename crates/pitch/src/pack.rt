@@ -18,10 +18,15 @@ use std::alloc::Refused;
 /// Why a block is no table, or why there is none.
 #[derive(Clone, Copy, PartialEq, Eq, Debug)]
 pub enum PitchFault {
+    /// Memory lacks.
     Memory,
+    /// There are fewer than eight bytes, or a fixed byte is wrong.
     Header,
+    /// The axis is not 0, 1 or 2.
     Axis,
+    /// There are more than 2000 millimetres.
     Count,
+    /// There are more or fewer bytes than the count wants.
     Length,
 }
 
@@ -51,7 +56,7 @@ fn code_of(axis: Axis) -> u8
     }
 }
 
-// The four bytes of a millimetre.
+// The four bytes of a millimetre, from which it can be read again.
 fn four(e: Entry) -> [u8; 4]
     ensures bytes { λ r. ⌜ r ≡ fourOf e ⌝ }
     ensures back { λ r. ⌜ entryOf (getD r 0 0) (getD r 1 0) (getD r 2 0) (getD r 3 0) ≡ e ⌝ }
@@ -71,7 +76,7 @@ fn header(heap: Global, axis: Axis, screw: u16, count: u16) -> Result<Vec<u8>, P
     Ok(Vec::from_slice(heap, &bytes)?)
 }
 
-/// Makes a block of a table, which says just that table again.
+/// Makes a block of a table. The block says what the table holds, so that `unpack` gives the same table.
 pub fn pack(heap: Global, table: &Table) -> Result<Vec<u8>, PitchFault>
     ensures block { λ r. ⌜ Cases r (λ v. vec-items v ≡ blockOf (partsOf (now (table .entry)))) (λ e. e ≡ Memory) ⌝ }
     ensures back { λ r. ⌜ made r (λ v. parsed (vec-items v) ≡ Ok (partsOf (now (table .entry)))) ⌝ }
@@ -95,7 +100,7 @@ fn axis_of(b: u8) -> Option<Axis>
     }
 }
 
-// The millimetre at place `at` of a block.
+// Millimetre `i` of a block.
 fn entry_at(bytes: &[u8], i: usize) -> Entry
     requires { ⌜ 8 + 4 * i + 4 ≤ length (now bytes) ⌝ }
     ensures { λ r. ⌜ r ≡ entryAt (now (bytes .entry)) i ⌝ }
@@ -119,7 +124,7 @@ fn entries_in(heap: Global, bytes: &[u8], count: usize) -> Result<Vec<Entry>, Pi
     Ok(all)
 }
 
-/// Makes a table of a block. Bytes that are taken are the block of that table.
+/// Makes a table of a block, or says the first fault in it. Where there is a table, `bytes` are its block.
 pub fn unpack(heap: Global, bytes: &[u8]) -> Result<Table, PitchFault>
     ensures answer { λ r. ⌜ Unpacks r (parsed (now (bytes .entry))) ⌝ }
     ensures block { λ r. ⌜ made r (λ t. now (bytes .entry) ≡ blockOf (partsOf t)) ⌝ }

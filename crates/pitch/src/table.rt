@@ -9,6 +9,7 @@ ghost use Rattle.std.specs.Results.{isOk, Cases};
 ghost use Rattle.pitch.specs.declared.table.TableFault.the-variants.{Memory, TooMany};
 use std::alloc::Global;
 
+/// The axis that the screw drives.
 #[derive(Clone, Copy, PartialEq, Eq, Debug)]
 pub enum Axis {
     X,
@@ -35,7 +36,9 @@ pub struct Table {
 /// Why a millimetre was not added.
 #[derive(Clone, Copy, PartialEq, Eq, Debug)]
 pub enum TableFault {
+    /// Memory lacks.
     Memory,
+    /// The table has 2000 already.
     TooMany,
 }
 
@@ -53,7 +56,7 @@ impl Table {
         }
     }
 
-    /// Adds the next millimetre.
+    /// Adds the next millimetre; a refusal leaves the table.
     pub fn add(&mut self, entry: Entry) -> Result<(), TableFault>
         ensures axis { λ r. ⌜ now (self .exit) .axis ≡ now (self .entry) .axis ⌝ }
         ensures screw { λ r. ⌜ now (self .exit) .screw ≡ now (self .entry) .screw ⌝ }

@@ -30,7 +30,7 @@ fn head_lines(heap: Global, axis: Axis, screw: u16) -> Result<String, AllocError
     format!(heap, "axis {name}\nscrew {screw}\n")
 }
 
-// The line of one millimetre, whose numbers have 16 bits.
+// The line of one millimetre. That its numbers have 16 bits is known here, and not in the loop that calls this.
 fn line_of(heap: Global, entry: Entry) -> Result<String, AllocError>
     ensures bytes { λ r. ⌜ made r (λ s. string-bytes s ≡ lineOf entry) ⌝ }
     ensures fits { λ r. ⌜ SFits w16 (entry .forward) × SFits w16 (entry .back) ⌝ }
@@ -40,7 +40,7 @@ fn line_of(heap: Global, entry: Entry) -> Result<String, AllocError>
     format!(heap, "{forward} {back}\n")
 }
 
-/// Writes a table as text.
+/// Writes a table as text. `read_table` reads that text as the same table.
 pub fn show(heap: Global, table: &Table) -> Result<String, AllocError>
     ensures text { λ r. ⌜ made r (λ s. string-bytes s ≡ textOf (partsOf (now (table .entry)))) ⌝ }
     ensures back { λ r. ⌜ made r (λ s. readText (string-bytes s) ≡ Ok (partsOf (now (table .entry)))) ⌝ }

@@ -17,14 +17,23 @@ use std::fmt;
 /// What is wrong with a line.
 #[derive(Clone, Copy, PartialEq, Eq, Debug)]
 pub enum What {
+    /// Memory lacks.
     Memory,
+    /// The axis is not X, Y or Z.
     Axis,
+    /// The screw's number is not 0 to 65535.
     Screw,
+    /// The line has neither an axis, a screw nor two errors.
     Words,
+    /// An error is not -32768 to 32767.
     Number,
+    /// There are more than 2000 millimetres.
     TooMany,
+    /// An error stands before the axis and the screw.
     Early,
+    /// The axis or the screw stands a second time.
     Twice,
+    /// The text ends without an axis or a screw.
     Missing,
 }
 
@@ -116,6 +125,7 @@ fn pair_row(first: &[u8], second: &[u8]) -> Result<Row, What>
     Ok(Row::Errors(Entry { forward, back }))
 }
 
+// What a line says, up to a `#`.
 fn row_in(line: &[u8]) -> Result<Row, What>
     ensures { λ r. ⌜ r ≡ rowIn (now (line .entry)) ⌝ }
 {
@@ -180,6 +190,7 @@ impl Reading {
     }
 }
 
+// The table, once the text has ended after `line` lines.
 fn table_of(reading: Reading, line: usize) -> Result<Table, TextFault>
     ensures { λ r. ⌜ Reads r (atEnd line (sofarOf reading)) ⌝ }
 {
@@ -192,7 +203,7 @@ fn table_of(reading: Reading, line: usize) -> Result<Table, TextFault>
     Ok(table)
 }
 
-/// Reads a table.
+/// Reads a table from text, or says the first fault and its line. The text that `show` writes of a table is read as that table.
 pub fn read_table(heap: Global, text: &[u8]) -> Result<Table, TextFault>
     ensures { λ r. ⌜ Reads r (readText (now (text .entry))) ⌝ }
 {
