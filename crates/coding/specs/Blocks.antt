@@ -9,6 +9,13 @@ use Rattle.std.specs.shelf.Lists.{All}
 use Rattle.adding.specs.Sums.{sum}
 use Rattle.coding.specs.Rows.{Row}
 
+-- the most fragments of a block, and the most bytes of a fragment
+abbrev pub mostFragments : ℕ
+mostFragments = 256
+
+abbrev pub largestFragment : ℕ
+largestFragment = 239
+
 -- s zero bytes
 abbrev pub zeros : ℕ → List ℕ
 zeros s = replicate s 0

@@ -2,6 +2,8 @@
 use mathlib.Core.Path.{_≡_}
 use mathlib.Core.Bool.{cond}
 use Prim.Native.Nat.{ℕ, zero, suc, _%_, _^_, _<_, _≤_}
+use Rattle.coding.specs.Blocks.{mostFragments}
+use Rattle.rules.specs.Filling.{lastNumber}
 use Rattle.rules.specs.Draws.{step, width, within, drawn, seed}
 
 -- how many values fall out before one is within, looking at the first `most` values after x
@@ -16,7 +18,7 @@ reached (suc count) m x = reached count m (drawn m x)
 
 -- in each draw for each fragment number at most 20 values fall out in a row, however many are looked at
 abbrev pub FewFall : Type 0
-FewFall = (m n count most : ℕ) → 4 ≤ m → m ≤ 256 → m < n → n ≤ 16383 → fallen most m (reached count m (seed m n)) ≤ 20
+FewFall = (m n count most : ℕ) → 4 ≤ m → m ≤ mostFragments → m < n → n ≤ lastNumber → fallen most m (reached count m (seed m n)) ≤ 20
 
 -- the register after as many steps
 unfoldable pub after : ℕ → ℕ → ℕ
@@ -25,10 +27,10 @@ after (suc count) x = after count (step x)
 
 -- wherever the register stands, of the next k + 1 values not all fall out
 abbrev pub NoLongRun : ℕ → Type 0
-NoLongRun k = (m x : ℕ) → 4 ≤ m → m ≤ 256 → x < 2 ^ 24 → ((j : ℕ) → 1 ≤ j → j ≤ suc k → m ≤ after j x % width m) → ⊥
+NoLongRun k = (m x : ℕ) → 4 ≤ m → m ≤ mostFragments → x < 2 ^ 24 → ((j : ℕ) → 1 ≤ j → j ≤ suc k → m ≤ after j x % width m) → ⊥
 
 -- a draw ends at the first value below m: after j + 1 steps, with j at most k, and all before it fall out
 abbrev pub DrawsTheFirst : ℕ → Type 0
 DrawsTheFirst k =
-    (m x : ℕ) → 4 ≤ m → m ≤ 256 → x < 2 ^ 24
+    (m x : ℕ) → 4 ≤ m → m ≤ mostFragments → x < 2 ^ 24
     → (j : ℕ) × (j ≤ k) × (drawn m x ≡ after (suc j) x) × (after (suc j) x % width m < m) × ((i : ℕ) → i < j → m ≤ after (suc i) x % width m)

@@ -7,7 +7,8 @@ use lib.Dec.{eqb, leb, ltb}
 use lib.ListN.{set, replicate}
 use Rattle.std.specs.declared.option.Option.{Option}
 use Rattle.coding.specs.Rows.{Row}
-use Rattle.rules.specs.Filling.{rowIf, single}
+use Rattle.coding.specs.Blocks.{mostFragments}
+use Rattle.rules.specs.Filling.{lastNumber, rowIf, single}
 
 -- bit k of x, bit 0 the lowest
 abbrev pub bit : ℕ → ℕ → ℕ
@@ -52,10 +53,10 @@ abbrev pub seed : ℕ → ℕ → ℕ
 seed m n = 1 + 1001 * (n - m)
 
 abbrev pub publishedServes : ℕ → ℕ → Bool
-publishedServes a m = eqb a 0 && leb 4 m && leb m 256
+publishedServes a m = eqb a 0 && leb 4 m && leb m mostFragments
 
 abbrev pub publishedMarks : ℕ → ℕ → Row
 publishedMarks m n = cond (leb n m) (single m (n - 1)) (draws (m / 2) m (seed m n) (replicate m false))
 
 abbrev pub publishedRow : ℕ → ℕ → ℕ → Option Row
-publishedRow a m n = rowIf (publishedServes a m && leb 1 n && leb n 16383) (publishedMarks m n)
+publishedRow a m n = rowIf (publishedServes a m && leb 1 n && leb n lastNumber) (publishedMarks m n)

@@ -11,6 +11,10 @@ use Rattle.coding.specs.Rows.{Row}
 use Rattle.rules.specs.declared.line_rule.RowFault.{RowFault}
 use Rattle.rules.specs.declared.line_rule.RowFault.the-variants.{Short, NoRow}
 
+-- the last fragment number that can have a row: N has 14 bits
+abbrev pub lastNumber : ℕ
+lastNumber = 16383
+
 -- the answer, where the test says whether the list is long enough
 abbrev pub answered : Bool → Option Row → Result (Unit {0}) RowFault
 answered false row = Err Short

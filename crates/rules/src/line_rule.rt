@@ -7,7 +7,7 @@ ghost use lib.ListN.{length};
 ghost use Rattle.std.specs.declared.option.Option.{Option};
 ghost use Rattle.std.specs.declared.option.Option.the-variants.{Some, None};
 ghost use Rattle.coding.specs.Rows.{Row, IsRow};
-ghost use Rattle.rules.specs.Filling.{answered, filled};
+ghost use Rattle.rules.specs.Filling.{lastNumber, answered, filled};
 
 /// Why a list of marks was left as it was.
 #[derive(Clone, Copy, PartialEq, Eq, Debug)]
@@ -32,7 +32,7 @@ pub trait LineRule {
 
     law unserved: { (s : Self) (a m n : ℕ) → served s a m ≡ false → row s a m n ≡ None };
 
-    law beyond: { (s : Self) (a m n : ℕ) → 16383 < n → row s a m n ≡ None };
+    law beyond: { (s : Self) (a m n : ℕ) → lastNumber < n → row s a m n ≡ None };
 
     law whole: { (s : Self) (a m n : ℕ) (marks : Row) → row s a m n ≡ Some marks → IsRow m marks };
 
