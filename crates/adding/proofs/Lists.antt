@@ -1,4 +1,4 @@
--- Sums of lists of one length. Assumes nothing.
+-- Sums of lists. Assumes nothing.
 use mathlib.Core.Path.{_≡_, refl, sym, ap, ap₂, _∙_}
 use mathlib.Core.List.{List, [], _∷_, _++_}
 use Prim.Native.Nat.{ℕ, zero, suc, _+_}
@@ -17,7 +17,7 @@ added-is-sum add [] ys e = refl
 added-is-sum add (x ∷ xs) [] e = absurd (suc-ne-zero (length xs) e)
 added-is-sum {E = E} add (x ∷ xs) (y ∷ ys) e = ap (λ (zs : List E). add x y ∷ zs) (added-is-sum add xs ys (suc-inj e))
 
--- ---- sums keep the four laws, over lists of one length
+-- ---- sums keep the four laws; those of the zero want lists of one length
 
 module _ {E : Type 0} {none : E} {add : E → E → E} (laws : Laws none add) where
   pub sum-assoc : (xs ys zs : List E) → sum add (sum add xs ys) zs ≡ sum add xs (sum add ys zs)

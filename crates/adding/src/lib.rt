@@ -4,7 +4,7 @@ ghost use mathlib.Core.Bool.{false};
 ghost use Prim.Native.Nat.{min};
 ghost use lib.Bits.{bitXor};
 ghost use lib.ListN.{length};
-ghost use Rattle.adding.specs.Sums.{differ, added};
+ghost use Rattle.adding.specs.Sums.{differ, added, sum as total};
 
 /// A kind of element whose adding is associative and commutative, has a zero, and gives zero for an element added to itself.
 pub trait Element: Copy {
@@ -63,6 +63,7 @@ pub impl Element for u8 as ByteElement {
 fn add_front<E: Element>(a: &mut [E], b: &[E], n: usize)
     requires { ⌜ n ≡ min (length (now a)) (length (now b)) ⌝ }
     ensures places { λ _. ⌜ now (a .exit) ≡ added sum (now (a .entry)) (now (b .entry)) ⌝ }
+    ensures equal { λ _. ⌜ (length (now (a .entry)) ≡ length (now (b .entry)) → now (a .exit) ≡ total sum (now (a .entry)) (now (b .entry))) ⌝ }
     ensures back { λ _. ⌜ added sum (now (a .exit)) (now (b .entry)) ≡ now (a .entry) ⌝ }
 {
     for i in 0..n {
@@ -71,9 +72,10 @@ fn add_front<E: Element>(a: &mut [E], b: &[E], n: usize)
 }
 
 /// Adds `b` into `a` place by place. Where `b` is shorter the rest of `a` stays; where it is longer its rest does not count.
-/// Adding it once more would give `a` back.
+/// Lists of one length become their sum. Adding `b` once more would give `a` back.
 pub fn add_into<E: Element>(a: &mut [E], b: &[E])
     ensures places { λ _. ⌜ now (a .exit) ≡ added sum (now (a .entry)) (now (b .entry)) ⌝ }
+    ensures equal { λ _. ⌜ (length (now (a .entry)) ≡ length (now (b .entry)) → now (a .exit) ≡ total sum (now (a .entry)) (now (b .entry))) ⌝ }
     ensures back { λ _. ⌜ added sum (now (a .exit)) (now (b .entry)) ≡ now (a .entry) ⌝ }
 {
     let n = a.len().min(b.len());

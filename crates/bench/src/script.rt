@@ -8,7 +8,7 @@ use std::alloc::AllocError;
 use std::alloc::Global;
 use std::alloc::Refused;
 
-/// A line that is no command, or one for which memory lacks. Either is answered `error`, so no more is told.
+/// A line that is no command, or one for which there is not enough memory. Either is answered `error`, so no more is told.
 #[derive(Clone, Copy, PartialEq, Eq, Debug)]
 pub struct Wrong;
 

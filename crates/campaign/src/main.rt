@@ -56,7 +56,7 @@ fn plan(rt: &LibcRuntime, length: usize, size: u8) -> Result<Layout, AnyError> {
     let Some(layout) = layout else {
         return Err(format!(
             heap,
-            "{length} bytes cannot be cut into at most 256 fragments of {size} bytes (1 to 239)"
+            "{length} bytes are more than 256 fragments of {size} bytes: choose a larger size"
         )?.into());
     };
     let m = layout.fragments;
@@ -107,11 +107,18 @@ fn run(rt: &LibcRuntime) -> Result<(), AnyError> {
     let size = options.size;
     let layout = plan(rt, block.len(), size)?;
     let m = layout.fragments;
-    let last = m.saturating_add(options.spares).min(LAST);
+    let last = m.saturating_add(options.spares);
+    if last > LAST {
+        let most = LAST.saturating_sub(m);
+        return Err(format!(
+            rt.alloc(),
+            "a block of {m} fragments has at most {most} to spare"
+        )?.into());
+    }
     for n in 1..last.saturating_add(1) {
         print_fragment(rt, block.as_slice(), m, size, n)?;
     }
-    let spares = last.saturating_sub(m);
+    let spares = options.spares;
     println!(
         rt,
         "handled: {m} fragments of the block and {spares} to spare"

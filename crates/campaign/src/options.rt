@@ -1,4 +1,5 @@
 // What the program is asked for on its command line: TABLE [SIZE [SPARES]].
+use coding::LARGEST_FRAGMENT;
 use std::env;
 use std::error::AnyError;
 
@@ -36,6 +37,9 @@ pub(crate) fn read_options(rt: &LibcRuntime) -> Result<Options, AnyError> {
     let (Ok(size), Ok(spares), None) = (size, spares, args.next()) else {
         return Err(USAGE.into());
     };
+    if size == 0 || size > LARGEST_FRAGMENT {
+        return Err(USAGE.into());
+    }
     Ok(Options {
         table,
         size,

@@ -8,9 +8,10 @@ use native.Mathlib.Omega.{arith}
 use native.Mathlib.Nat.{suc-inj, suc-ne-zero}
 use lib.ListN.{length, replicate, length-map, length-replicate}
 use Rattle.std.specs.shelf.Lists.{All}
+use Rattle.std.proofs.shelf.Elements.{all-map, all-weaker}
 use Rattle.coding.specs.Rows.{Row}
 use Rattle.coding.specs.Blocks.{marked}
-use Rattle.coding.specs.Lines.{Slot, Slot.empty, Slot.filled, missing, Fits, Sound, Outcome, Outcome.spare, Outcome.into, insert, settle}
+use Rattle.coding.specs.Lines.{Slot, Slot.empty, Slot.filled, missing, Fits, Sound, Outcome, Outcome.dependent, Outcome.into, insert, settle}
 use Rattle.coding.proofs.Spaces.{Space, cancel, in-marked}
 use Rattle.coding.proofs.Placing.{Whole, Inserted, inserted}
 use Rattle.coding.proofs.Settling.{solved, whole-settle, fits-settle, in-settle, length-settle}
@@ -25,14 +26,6 @@ all-unmap : {X Y : Type 0} (P : Y → Type 0) (f : X → Y) (xs : List X) → Al
 all-unmap P f [] h = tt
 all-unmap P f (x ∷ xs) h = (h .0, all-unmap P f xs (h .1))
 
-all-onmap : {X Y : Type 0} (P : Y → Type 0) (f : X → Y) (xs : List X) → All (λ (x : X). P (f x)) xs → All P (map f xs)
-all-onmap P f [] h = tt
-all-onmap P f (x ∷ xs) h = (h .0, all-onmap P f xs (h .1))
-
-all-to : {X : Type 0} (P Q : X → Type 0) → ((x : X) → P x → Q x) → (xs : List X) → All P xs → All Q xs
-all-to P Q g [] h = tt
-all-to P Q g (x ∷ xs) h = (g x (h .0), all-to P Q g xs (h .1))
-
 module _ {V : Type 0} where
   pub length-free : (ls : List (Slot V)) → length (free ls) ≡ missing ls
   length-free [] = refl
@@ -43,12 +36,12 @@ module _ {V : Type 0} where
   rows-free [] = tt
   rows-free (empty ∷ ls) = (
     ap suc (length-replicate (length ls) false),
-    all-onmap (λ (r : Row). length r ≡ suc (length ls)) (λ (r : Row). false ∷ r) (free ls)
-        (all-to (λ (r : Row). length r ≡ length ls) (λ (r : Row). suc (length r) ≡ suc (length ls)) (λ r e. ap suc e) (free ls) (rows-free ls)),
+    all-map (λ (r : Row). length r ≡ suc (length ls)) (λ (r : Row). false ∷ r) (free ls)
+        (all-weaker (λ (r : Row). length r ≡ length ls) (λ (r : Row). suc (length r) ≡ suc (length ls)) (λ r e. ap suc e) (free ls) (rows-free ls)),
   )
   rows-free (filled t q ∷ ls) =
-      all-onmap (λ (r : Row). length r ≡ suc (length ls)) (λ (r : Row). false ∷ r) (free ls)
-      (all-to (λ (r : Row). length r ≡ length ls) (λ (r : Row). suc (length r) ≡ suc (length ls)) (λ r e. ap suc e) (free ls) (rows-free ls))
+      all-map (λ (r : Row). length r ≡ suc (length ls)) (λ (r : Row). false ∷ r) (free ls)
+      (all-weaker (λ (r : Row). length r ≡ length ls) (λ (r : Row). suc (length r) ≡ suc (length ls)) (λ r e. ap suc e) (free ls) (rows-free ls))
 
 module _ {V : Type 0} {In : V → Type 0} {none : V} {add : V → V → V} (sp : Space In none add) where
   -- the two blocks have the same under each row
@@ -130,9 +123,9 @@ module _ {V : Type 0} {In : V → Type 0} {none : V} {add : V → V → V} (sp :
     pub count : missing ls ≤ length rows + missing lines
     pub fits : (b : List V) → Whole sp ls b → Fits none add lines b → Fits none add ls b × Alike rows b b₀
 
-  refine-spare : (ls : List (Slot V)) (b₀ : List V) (r : Row) (rows : List Row) (q : V)
-      → Whole sp ls b₀ → Fits none add ls b₀ → Inserted sp ls r (marked none add r b₀) (spare q) → Refined ls b₀ rows → Refined ls b₀ (r ∷ rows)
-  refine-spare ls b₀ r rows q w f h k =
+  refine-dependent : (ls : List (Slot V)) (b₀ : List V) (r : Row) (rows : List Row) (q : V)
+      → Whole sp ls b₀ → Fits none add ls b₀ → Inserted sp ls r (marked none add r b₀) (dependent q) → Refined ls b₀ rows → Refined ls b₀ (r ∷ rows)
+  refine-dependent ls b₀ r rows q w f h k =
       record {
         lines = k .lines;
         sound = k .sound;
@@ -166,11 +159,11 @@ module _ {V : Type 0} {In : V → Type 0} {none : V} {add : V → V → V} (sp :
       go : (o : Outcome V) → Inserted sp ls r (marked none add r b₀) o
           → ((ls′ : List (Slot V)) → Sound In ls′ → All (λ (x : Row). length x ≡ length ls′) rows → Whole sp ls′ b₀ → Fits none add ls′ b₀ → Refined ls′ b₀ rows)
           → Refined ls b₀ (r ∷ rows)
-      go (spare q) h next = refine-spare ls b₀ r rows q w f h (next ls s (e .1) w f)
+      go (dependent q) h next = refine-dependent ls b₀ r rows q w f h (next ls s (e .1) w f)
       go (into ls′) h next =
           refine-into ls ls′ b₀ r rows h
           (next ls′ (h .0)
-          (all-to (λ (x : Row). length x ≡ length ls) (λ (x : Row). length x ≡ length ls′) (λ x k. k ∙ sym (h .1)) rows (e .1))
+          (all-weaker (λ (x : Row). length x ≡ length ls) (λ (x : Row). length x ≡ length ls′) (λ x k. k ∙ sym (h .1)) rows (e .1))
           (w .0 ∙ sym (h .1), w .1) (h .3 b₀ w .1 (f, refl)))
 
   -- so fewer rows than lines are empty leave two blocks

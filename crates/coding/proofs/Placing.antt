@@ -9,7 +9,7 @@ use lib.ListN.{length}
 use Rattle.std.specs.shelf.Lists.{All}
 use Rattle.coding.specs.Rows.{Row}
 use Rattle.coding.specs.Blocks.{marked}
-use Rattle.coding.specs.Lines.{Slot, Slot.empty, Slot.filled, missing, Fits, Sound, reduce, Outcome, Outcome.spare, Outcome.into, behind, place, insert}
+use Rattle.coding.specs.Lines.{Slot, Slot.empty, Slot.filled, missing, Fits, Sound, reduce, Outcome, Outcome.dependent, Outcome.into, behind, place, insert}
 use Rattle.coding.proofs.Spaces.{Space, in-marked}
 use Rattle.coding.proofs.Reducing.{Reduced, none-from-same, same-from-none, length-reduce, in-reduce, reduce-keeps, reduced}
 
@@ -20,17 +20,17 @@ module _ {V : Type 0} {In : V → Type 0} {none : V} {add : V → V → V} (sp :
 
   -- what placing a reduced row does
   abbrev pub Placed : List (Slot V) → Row → V → Outcome V → Type 0
-  Placed ls c p (spare q) = (q ≡ p) × ((b : List V) → marked none add c b ≡ none)
+  Placed ls c p (dependent q) = (q ≡ p) × ((b : List V) → marked none add c b ≡ none)
   Placed ls c p (into ls′) =
       Sound In ls′ × (length ls′ ≡ length ls) × (missing ls ≡ suc (missing ls′))
       × ((b : List V) → Whole ls b → Fits none add ls′ b ↔ (Fits none add ls b × (marked none add c b ≡ p)))
 
+  no-marks : (c : Row) → ((b : List V) → marked none add c b ≡ none) → (b : List V) → marked none add (false ∷ c) b ≡ none
+  no-marks c h [] = refl
+  no-marks c h (f ∷ b) = h b
+
   behind-empty : (ls : List (Slot V)) (c : Row) (p : V) (o : Outcome V) → Placed ls c p o → Placed (empty ∷ ls) (false ∷ c) p (behind empty o)
-  behind-empty ls c p (spare q) h = (h .0, λ b. no-marks b)
-    where
-      no-marks : (b : List V) → marked none add (false ∷ c) b ≡ none
-      no-marks [] = refl
-      no-marks (f ∷ b) = h .1 b
+  behind-empty ls c p (dependent q) h = (h .0, no-marks c (h .1))
   behind-empty ls c p (into ls′) h = (h .0, ap suc (h .1), ap suc (h .2), λ b w. both b w)
     where
       both : (b : List V) → Whole (empty ∷ ls) b → Fits none add (empty ∷ ls′) b ↔ (Fits none add (empty ∷ ls) b × (marked none add (false ∷ c) b ≡ p))
@@ -39,11 +39,7 @@ module _ {V : Type 0} {In : V → Type 0} {none : V} {add : V → V → V} (sp :
 
   behind-filled : (t : Row) (r : V) (ls : List (Slot V)) (c : Row) (p : V) (o : Outcome V)
       → length t ≡ length ls → In r → Placed ls c p o → Placed (filled t r ∷ ls) (false ∷ c) p (behind (filled t r) o)
-  behind-filled t r ls c p (spare q) e i h = (h .0, λ b. no-marks b)
-    where
-      no-marks : (b : List V) → marked none add (false ∷ c) b ≡ none
-      no-marks [] = refl
-      no-marks (f ∷ b) = h .1 b
+  behind-filled t r ls c p (dependent q) e i h = (h .0, no-marks c (h .1))
   behind-filled t r ls c p (into ls′) e i h = ((e ∙ sym (h .1), i, h .0), ap suc (h .1), h .2, λ b w. both b w)
     where
       both : (b : List V) → Whole (filled t r ∷ ls) b
@@ -69,7 +65,7 @@ module _ {V : Type 0} {In : V → Type 0} {none : V} {add : V → V → V} (sp :
 
   -- what an insertion does, in terms of the row and the bytes that came
   abbrev pub Inserted : List (Slot V) → Row → V → Outcome V → Type 0
-  Inserted ls c p (spare q) = In q × ((b : List V) → Whole ls b → Fits none add ls b → (marked none add c b ≡ p) ↔ (q ≡ none))
+  Inserted ls c p (dependent q) = In q × ((b : List V) → Whole ls b → Fits none add ls b → (marked none add c b ≡ p) ↔ (q ≡ none))
   Inserted ls c p (into ls′) =
       Sound In ls′ × (length ls′ ≡ length ls) × (missing ls ≡ suc (missing ls′))
       × ((b : List V) → Whole ls b → Fits none add ls′ b ↔ (Fits none add ls b × (marked none add c b ≡ p)))
@@ -85,7 +81,7 @@ module _ {V : Type 0} {In : V → Type 0} {none : V} {add : V → V → V} (sp :
         )
 
     from-placed : (o : Outcome V) → Placed ls (reduce add ls c p .row) (reduce add ls c p .bytes) o → Inserted ls c p o
-    from-placed (spare q) x = (
+    from-placed (dependent q) x = (
       subst In (sym (x .0)) (in-reduce sp ls c p s h),
       λ b w f. let k = same-left b w f in
           (λ y. x .0 ∙ sym (k .1 y) ∙ x .1 b, λ y. k .0 (x .1 b ∙ sym y ∙ x .0)),

@@ -52,3 +52,13 @@ module _ {V : Type 0} {In : V → Type 0} {none : V} {add : V → V → V} (sp :
       ∙ sym (swap f (marked none add c b) f (marked none add t b)
       ∙ ap (λ (y : V). add y (add (marked none add c b) (marked none add t b))) (sp .self f (h .0))
       ∙ sp .unit _ (sp .in-add _ _ (in-marked c b (h .1)) (in-marked t b (h .1))))
+
+  pub linear-block : (r : Row) (b b′ : List V) → length b ≡ length b′
+      → marked none add r (sum add b b′) ≡ add (marked none add r b) (marked none add r b′)
+  linear-block [] b b′ e = sym (sp .unit none (sp .in-none))
+  linear-block (m ∷ r) [] [] e = sym (sp .unit none (sp .in-none))
+  linear-block (m ∷ r) [] (g ∷ b′) e = absurd (suc-ne-zero (length b′) (sym e))
+  linear-block (m ∷ r) (f ∷ b) [] e = absurd (suc-ne-zero (length b) e)
+  linear-block (false ∷ r) (f ∷ b) (g ∷ b′) e = linear-block r b b′ (suc-inj e)
+  linear-block (true ∷ r) (f ∷ b) (g ∷ b′) e =
+      ap (add (add f g)) (linear-block r b b′ (suc-inj e)) ∙ swap f g (marked none add r b) (marked none add r b′)

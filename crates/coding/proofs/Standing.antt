@@ -9,7 +9,7 @@ use Rattle.std.specs.shelf.Lists.{All}
 use Rattle.coding.specs.Rows.{Row}
 use Rattle.coding.specs.Blocks.{zeros, xors, coded, Bytes, IsBlock}
 use Rattle.coding.specs.Agreement.{Equation, Proper, LeastFurther, SomeBlock, OnlyBlock}
-use Rattle.coding.specs.Lines.{Slot, Slot.empty, Slot.filled, missing, Fits, Sound, Outcome, Outcome.spare, Outcome.into, arrive, settle}
+use Rattle.coding.specs.Lines.{Slot, Slot.empty, Slot.filled, missing, Fits, Sound, Outcome, Outcome.dependent, Outcome.into, arrive, settle}
 use Rattle.coding.specs.Theorems.{StandsFor, Reached, Reached.start, Reached.known, Reached.taken}
 use Rattle.coding.proofs.Placing.{Whole, Inserted, inserted}
 use Rattle.coding.proofs.Settling.{whole-settle, fits-settle}
@@ -39,9 +39,9 @@ module _ {m s : ℕ} {accepted : List (Equation (List ℕ))} {ls : List (Slot (L
   pub arrived : (a : Equation (List ℕ)) → Proper m s a → Inserted (byte-space s) ls (a .row) (a .bytes) (arrive ls a)
   arrived a p = inserted (byte-space s) ls (a .row) (a .bytes) (k .sound) (p .0 ∙ sym (k .size)) (p .1)
 
-  pub kept-known : (a : Equation (List ℕ)) → Proper m s a → arrive ls a ≡ spare (zeros s) → StandsFor m s (a ∷ accepted) ls
+  pub kept-known : (a : Equation (List ℕ)) → Proper m s a → arrive ls a ≡ dependent (zeros s) → StandsFor m s (a ∷ accepted) ls
   kept-known a p e =
-      let x : Inserted (byte-space s) ls (a .row) (a .bytes) (spare (zeros s)) =
+      let x : Inserted (byte-space s) ls (a .row) (a .bytes) (dependent (zeros s)) =
       subst (Inserted (byte-space s) ls (a .row) (a .bytes)) e (arrived a p) in
       record {
         size = k .size;
@@ -84,9 +84,6 @@ module _ {m s : ℕ} {accepted : List (Equation (List ℕ))} {ls : List (Slot (L
   nothing-free (empty ∷ xs) e = absurd (suc-ne-zero (missing xs) e)
   nothing-free (filled t q ∷ xs) e = ap (map (λ (r : Row). false ∷ r)) (nothing-free xs e)
 
-  settled : List (List ℕ)
-  settled = settle (zeros s) xors ls
-
   pub the-block : missing ls ≡ 0 → OnlyBlock m s accepted (settle (zeros s) xors ls)
   the-block e =
       let b : List (List ℕ) = settle (zeros s) xors ls in
@@ -105,19 +102,19 @@ module _ {m s : ℕ} {accepted : List (Equation (List ℕ))} {ls : List (Slot (L
       let w = whole-settle (byte-space s) ls (k .sound) in
       (b, block b w, k .same b (block b w) .1 (fits-settle (byte-space s) ls (k .sound)))
 
-  -- no block agrees with a piece that leaves bytes other than zeros
-  pub refused : (a : Equation (List ℕ)) → Proper m s a → (q : List ℕ) → arrive ls a ≡ spare q → (q ≡ zeros s → ⊥) → SomeBlock m s (a ∷ accepted) → ⊥
+  -- no block agrees with a row and bytes that leave bytes other than zeros
+  pub refused : (a : Equation (List ℕ)) → Proper m s a → (q : List ℕ) → arrive ls a ≡ dependent q → (q ≡ zeros s → ⊥) → SomeBlock m s (a ∷ accepted) → ⊥
   refused a p q e n y =
-      let x : Inserted (byte-space s) ls (a .row) (a .bytes) (spare q) =
+      let x : Inserted (byte-space s) ls (a .row) (a .bytes) (dependent q) =
       subst (Inserted (byte-space s) ls (a .row) (a .bytes)) e (arrived a p) in
       n (x .1 (y .0) (whole (y .0) (y .1)) (k .same (y .0) (y .1) .0 (y .2 .1)) .0 (y .2 .0))
 
 module _ {m s : ℕ} {accepted : List (Equation (List ℕ))} {ls : List (Slot (List ℕ))} (k : StandsFor m s accepted ls) where
-  pub refused-only : (a : Equation (List ℕ)) → Proper m s a → (SomeBlock m s (a ∷ accepted) → ⊥) → (q : List ℕ) × (arrive ls a ≡ spare q) × (q ≡ zeros s → ⊥)
+  pub refused-only : (a : Equation (List ℕ)) → Proper m s a → (SomeBlock m s (a ∷ accepted) → ⊥) → (q : List ℕ) × (arrive ls a ≡ dependent q) × (q ≡ zeros s → ⊥)
   refused-only a p n = go (arrive ls a) refl
     where
-      go : (o : Outcome (List ℕ)) → arrive ls a ≡ o → (q : List ℕ) × (arrive ls a ≡ spare q) × (q ≡ zeros s → ⊥)
-      go (spare q) e = (q, e, λ z. n (possible (kept-known k a p (e ∙ ap spare z))))
+      go : (o : Outcome (List ℕ)) → arrive ls a ≡ o → (q : List ℕ) × (arrive ls a ≡ dependent q) × (q ≡ zeros s → ⊥)
+      go (dependent q) e = (q, e, λ z. n (possible (kept-known k a p (e ∙ ap dependent z))))
       go (into ls′) e = absurd (n (possible (kept-taken k ls′ a p e)))
 
 pub kept : {m s : ℕ} {accepted : List (Equation (List ℕ))} {ls : List (Slot (List ℕ))} → Reached m s accepted ls → StandsFor m s accepted ls

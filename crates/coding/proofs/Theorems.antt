@@ -1,15 +1,18 @@
 -- The theorems on coding and elimination. Assumes nothing.
 use mathlib.Core.Path.{sym, _∙_}
-use Rattle.coding.specs.Theorems.{Coding-linear, Reducing-keeps, Always-a-block, Two-where-empty, Lines-stand-for, Missing-least, Settled-block, Contradiction-exact}
-use Rattle.coding.proofs.Spaces.{linear}
+use Rattle.coding.specs.Theorems.{Linear-in-row, Linear-in-block, Reducing-keeps, Always-a-block, Two-where-empty, Lines-stand-for, Missing-least, Settled-block, Contradiction-exact}
+use Rattle.coding.proofs.Spaces.{linear, linear-block}
 use Rattle.coding.proofs.ByteSpaces.{byte-space, one, one-bytes, one-apart}
 use Rattle.coding.proofs.Placing.{same-left}
 use Rattle.coding.proofs.Settling.{whole-settle, fits-settle}
 use Rattle.coding.proofs.Counting.{two}
 use Rattle.coding.proofs.Standing.{kept, needs, the-block, refused, refused-only}
 
-pub coding-linear : Coding-linear
-coding-linear m s r r′ b e e′ h = linear (byte-space s) r r′ b (e ∙ sym e′) (h .1)
+pub linear-in-row : Linear-in-row
+linear-in-row m s r r′ b e e′ h = linear (byte-space s) r r′ b (e ∙ sym e′) (h .1)
+
+pub linear-in-block : Linear-in-block
+linear-in-block m s r b b′ h h′ = linear-block (byte-space s) r b b′ (h .0 ∙ sym (h′ .0))
 
 pub reducing-keeps : Reducing-keeps
 reducing-keeps m s ls a b sys p h f =

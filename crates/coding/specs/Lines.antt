@@ -45,18 +45,18 @@ reduce add (l ∷ ls) (false ∷ c) p = before false (reduce add ls c p)
 reduce add (empty ∷ ls) (true ∷ c) p = before true (reduce add ls c p)
 reduce add (filled t q ∷ ls) (true ∷ c) p = before false (reduce add ls (sum differ c t) (add p q))
 
--- what becomes of a reduced row: without a yes it leaves its bytes, any other fills the line of its first yes
+-- what becomes of a reduced row: without a yes it depends on the lines, and its bytes are left; any other fills the line of its first yes
 pub data Outcome (V : Type 0) : Type 0 where
-  spare : V → Outcome V
+  dependent : V → Outcome V
   into : List (Slot V) → Outcome V
 
 abbrev pub behind : {V : Type 0} → Slot V → Outcome V → Outcome V
-behind l (spare p) = spare p
+behind l (dependent p) = dependent p
 behind l (into ls) = into (l ∷ ls)
 
 abbrev pub place : {V : Type 0} → List (Slot V) → Row → V → Outcome V
-place [] c p = spare p
-place (l ∷ ls) [] p = spare p
+place [] c p = dependent p
+place (l ∷ ls) [] p = dependent p
 place (l ∷ ls) (false ∷ c) p = behind l (place ls c p)
 place (l ∷ ls) (true ∷ c) p = into (filled c p ∷ ls)
 

@@ -8,15 +8,21 @@ use Rattle.adding.specs.Sums.{sum, differ}
 use Rattle.coding.specs.Rows.{Row, IsRow}
 use Rattle.coding.specs.Blocks.{zeros, xors, coded, Bytes, IsBlock}
 use Rattle.coding.specs.Agreement.{Equation, Proper, Agrees, AgreesAll, LeastFurther, SomeBlock, OnlyBlock}
-use Rattle.coding.specs.Lines.{Slot, Slot.empty, missing, Fits, Sound, reduce, Outcome.spare, Outcome.into, arrive, settle}
+use Rattle.coding.specs.Lines.{Slot, Slot.empty, missing, Fits, Sound, reduce, Outcome.dependent, Outcome.into, arrive, settle}
 
 -- ---- coding
 
--- the coded fragment under the sum of two rows is the sum of the two coded fragments
-abbrev pub Coding-linear : Type 0
-Coding-linear =
+-- coding is linear in the row: the coded fragment under the sum of two rows is the sum of the two coded fragments
+abbrev pub Linear-in-row : Type 0
+Linear-in-row =
     (m s : ℕ) (r r′ : Row) (b : List (List ℕ)) → IsRow m r → IsRow m r′ → IsBlock m s b
     → coded s (sum differ r r′) b ≡ xors (coded s r b) (coded s r′ b)
+
+-- and in the block: the coded fragment of the sum of two blocks, fragment by fragment, is the sum of the two coded fragments
+abbrev pub Linear-in-block : Type 0
+Linear-in-block =
+    (m s : ℕ) (r : Row) (b b′ : List (List ℕ)) → IsBlock m s b → IsBlock m s b′
+    → coded s r (sum xors b b′) ≡ xors (coded s r b) (coded s r b′)
 
 -- ---- lines and cells on their own
 
@@ -47,7 +53,7 @@ Two-where-empty =
 pub data Reached (m s : ℕ) : List (Equation (List ℕ)) → List (Slot (List ℕ)) → Type 0 where
   start : Reached m s [] (replicate m empty)
   known : {accepted : List (Equation (List ℕ))} {ls : List (Slot (List ℕ))} (a : Equation (List ℕ))
-      → Reached m s accepted ls → Proper m s a → arrive ls a ≡ spare (zeros s) → Reached m s (a ∷ accepted) ls
+      → Reached m s accepted ls → Proper m s a → arrive ls a ≡ dependent (zeros s) → Reached m s (a ∷ accepted) ls
   taken : {accepted : List (Equation (List ℕ))} {ls : List (Slot (List ℕ))} (ls′ : List (Slot (List ℕ))) (a : Equation (List ℕ))
       → Reached m s accepted ls → Proper m s a → arrive ls a ≡ into ls′ → Reached m s (a ∷ accepted) ls′
 
@@ -78,4 +84,4 @@ abbrev pub Contradiction-exact : Type 0
 Contradiction-exact =
     (m s : ℕ) (accepted : List (Equation (List ℕ))) (ls : List (Slot (List ℕ))) → Reached m s accepted ls
     → (a : Equation (List ℕ)) → Proper m s a
-    → ((q : List ℕ) × (arrive ls a ≡ spare q) × (q ≢ zeros s)) ↔ (SomeBlock m s (a ∷ accepted) → ⊥)
+    → ((q : List ℕ) × (arrive ls a ≡ dependent q) × (q ≢ zeros s)) ↔ (SomeBlock m s (a ∷ accepted) → ⊥)

@@ -15,7 +15,7 @@ use Rattle.adding.proofs.Lists.{length-sum, sum-assoc, sum-comm, sum-zeros, add
 use Rattle.coding.specs.Rows.{Row}
 use Rattle.coding.specs.Blocks.{zeros, xors, coded}
 use Rattle.cutting.specs.Cuts.{fragment, cut}
-use Rattle.cutting.proofs.Pieces.{length-fragment}
+use Rattle.cutting.proofs.Fragments.{length-fragment}
 
 pub length-coded : (s : ℕ) (marks : Row) (m : ℕ) (bytes : List ℕ) → length (coded s marks (cut m s bytes)) ≡ s
 length-coded s [] m bytes = length-replicate s 0

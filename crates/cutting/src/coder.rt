@@ -31,7 +31,7 @@ fn sum_marked(part: &mut [u8], block: &[u8], marks: &[bool])
 }
 
 /// Writes the coded fragment under the row `marks` of the block, cut into as many fragments of `size` bytes as the row has marks and
-/// filled up with zeros, to the first `size` bytes of `out`. The rest of `out` stays; a shorter buffer is refused and left.
+/// filled up with zeros (bytes of the block beyond them do not count), to the first `size` bytes of `out`. The rest of `out` stays; a shorter buffer is refused and left.
 pub fn code_into(block: &[u8], size: usize, marks: &[bool], out: &mut [u8]) -> Result<(), Short>
     ensures answer { λ r. ⌜ r ≡ cond (leb size (length (now (out .entry)))) (Ok tt) (Err (record {})) ⌝ }
     ensures bytes { λ _. ⌜ now (out .exit) ≡ cond (leb size (length (now (out .entry)))) (coded size (now (marks .entry)) (cut (length (now (marks .entry))) size (now (block .entry))) ++ drop size (now (out .entry))) (now (out .entry)) ⌝ }
@@ -52,7 +52,7 @@ fn proved() -> u8
     2
 }
 
-/// A list of bytes cut into fragments is a block, and the fragments put together again begin with that list.
+/// A list of bytes cut into fragments is a block, and the fragments put together again are that list and then zeros.
 /// Answers how many theorems these are.
 pub fn cutting_holds() -> u8
     ensures count { λ r. ⌜ r ≡ 2 ⌝ }

@@ -1,12 +1,8 @@
 // How many fragments a block has, and how much filler the last one.
 ghost use mathlib.Core.Path.{_≡_};
 ghost use Rattle.cutting.specs.Layouts.{layoutOf, Exact};
-
-/// The largest number of fragments of a block.
-pub const MOST_FRAGMENTS: u16 = 256;
-
-/// The largest size of a fragment, in bytes.
-pub const LARGEST_FRAGMENT: u8 = 239;
+use coding::LARGEST_FRAGMENT;
+use coding::MOST_FRAGMENTS;
 
 /// A block's number of fragments (NbFrag, M) and the filler bytes at its end (padding).
 #[derive(Clone, Copy, PartialEq, Eq, Debug)]
@@ -15,7 +11,8 @@ pub struct Layout {
     pub padding: u8,
 }
 
-/// The layout of a block of `length` bytes in fragments of `size` bytes (1–239); none where it has no byte or wants more than 256.
+/// The layout of a block of `length` bytes in fragments of `size` bytes. None where the size is not 1–239, where the block has no byte, and
+/// where it wants more than 256 fragments.
 pub fn layout_of(length: u32, size: u8) -> Option<Layout>
     ensures answer { λ r. ⌜ r ≡ layoutOf length size ⌝ }
     ensures exact { λ r. ⌜ Exact length size r ⌝ }

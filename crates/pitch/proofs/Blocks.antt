@@ -26,13 +26,15 @@ use Rattle.pitch.specs.declared.table.Entry.{Entry}
 abbrev pub Fitting : Entry → Type 0
 Fitting e = entryOf (getD (fourOf e) 0 0) (getD (fourOf e) 1 0) (getD (fourOf e) 2 0) (getD (fourOf e) 3 0) ≡ e
 
--- one more millimetre is packed; the loop reads the entries through a slice, zs
-pub packed : (head bs cs fs : List ℕ) (es zs : List Entry) (i : ℕ) (d : Entry) → zs ≡ es → i < length zs → fs ≡ fourOf (getD zs i d) → cs ≡ bs ++ fs → entryOf (getD fs 0 0) (getD fs 1 0) (getD fs 2 0) (getD fs 3 0) ≡ getD zs i d → (bs ≡ head ++ joined fourOf (take i es)) × All Fitting (take i es) → (cs ≡ head ++ joined fourOf (take (i + 1) es)) × All Fitting (take (i + 1) es)
-packed head bs cs fs es zs i d same h four new fits old =
+-- a loop that puts something of each element behind a head, one element more; it reads the elements through a slice, zs
+pub joined-next : {A : Type 0} (put : A → List ℕ) (P : A → Type 0) (head bs cs fs : List ℕ) (es zs : List A) (i : ℕ) (d : A) → zs ≡ es → i < length zs
+    → fs ≡ put (getD zs i d) → cs ≡ bs ++ fs → P (getD zs i d) → (bs ≡ head ++ joined put (take i es)) × All P (take i es)
+    → (cs ≡ head ++ joined put (take (i + 1) es)) × All P (take (i + 1) es)
+joined-next put P head bs cs fs es zs i d same h is new fits old =
     let h′ : i < length es = rw same at h in
-    let e : fs ≡ fourOf (getD es i d) = rw same at four in
-    let f : Fitting (getD es i d) = rw same at (rw four at fits) in
-    (new ∙ (rw (old .0, e) (joined-more fourOf head (take i es) (getD es i d) ∙ sym (ap (λ xs. head ++ joined fourOf xs) (take-more es i d h′)))), all-more Fitting es i d h′ (old .1) f)
+    let e : fs ≡ put (getD es i d) = rw same at is in
+    let f : P (getD es i d) = rw same at fits in
+    (new ∙ (rw (old .0, e) (joined-more put head (take i es) (getD es i d) ∙ sym (ap (λ xs. head ++ joined put xs) (take-more es i d h′)))), all-more P es i d h′ (old .1) f)
 
 -- one more millimetre is unpacked
 pub unpacked : (bs : List ℕ) (xs ys : List Entry) (i : ℕ) (x : Entry) → xs ≡ entriesIn bs i → x ≡ entryAt bs i → ys ≡ xs ++ x ∷ [] → ys ≡ entriesIn bs (i + 1)

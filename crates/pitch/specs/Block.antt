@@ -16,6 +16,7 @@ use Rattle.std.specs.declared.option.Option.{Option}
 use Rattle.std.specs.declared.option.Option.the-variants.{Some, None}
 use Rattle.std.specs.declared.result.Result.{Result}
 use Rattle.std.specs.declared.result.Result.the-variants.{Ok, Err}
+use Rattle.pitch.specs.Limits.{mostMillimetres}
 use Rattle.pitch.specs.declared.table.Axis.{Axis}
 use Rattle.pitch.specs.declared.table.Axis.the-variants.{X, Y, Z}
 use Rattle.pitch.specs.declared.table.Entry.{Entry}
@@ -75,7 +76,7 @@ headed bs = leb 8 (length bs) && eqb (getD bs 0 0) 80 && eqb (getD bs 1 0) 84 &&
 
 -- the faults of the count and of the length, in this order
 abbrev pub sized : List ℕ → Axis → Result Parts PitchFault
-sized bs a = cond (leb (countIn bs) 2000)
+sized bs a = cond (leb (countIn bs) mostMillimetres)
     (cond (eqb (length bs) (8 + 4 * countIn bs)) (Ok (record { axis = a; screw = screwIn bs; entries = entriesIn bs (countIn bs) })) (Err Length))
     (Err Count)
 
@@ -87,7 +88,7 @@ withAxis bs (Some a) = sized bs a
 abbrev pub parsed : List ℕ → Result Parts PitchFault
 parsed bs = cond (headed bs) (withAxis bs (axisOf (getD bs 2 0))) (Err Header)
 
--- the answer is what was wanted, unless a table was wanted and memory lacks
+-- the answer is what was wanted, unless a table was wanted and there is not enough memory
 abbrev pub Unpacks : Result Table PitchFault → Result Parts PitchFault → Type 0
 Unpacks (Ok t) want = want ≡ Ok (partsOf t)
 Unpacks (Err e) want = (want ≡ Err e) ⊎ ((e ≡ Memory) × (isOk want ≡ true))

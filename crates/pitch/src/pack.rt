@@ -10,6 +10,7 @@ ghost use Rattle.pitch.specs.declared.pack.PitchFault.the-variants.{Memory};
 ghost use Rattle.pitch.specs.Block.{code, fourOf, headOf, blockOf, partsOf, axisOf, entryAt, entryOf, entriesIn, parsed, Unpacks};
 use crate::table::Axis;
 use crate::table::Entry;
+use crate::table::MOST_MILLIMETRES;
 use crate::table::Table;
 use std::alloc::AllocError;
 use std::alloc::Global;
@@ -18,7 +19,7 @@ use std::alloc::Refused;
 /// Why a block is no table, or why there is none.
 #[derive(Clone, Copy, PartialEq, Eq, Debug)]
 pub enum PitchFault {
-    /// Memory lacks.
+    /// There is not enough memory.
     Memory,
     /// There are fewer than eight bytes, or a fixed byte is wrong.
     Header,
@@ -42,7 +43,7 @@ pub impl<T: Drop> From<Refused<T>> for PitchFault as PitchFromRefused {
     ghost converts = { λ _ r. r ≡ Memory };
 
     fn from(_e: Refused<T>) -> PitchFault {
-        PitchFault::Memory
+        Self::Memory
     }
 }
 
@@ -140,7 +141,7 @@ pub fn unpack(heap: Global, bytes: &[u8]) -> Result<Table, PitchFault>
     };
     let screw = u16::from_le_bytes([bytes[3], bytes[4]]);
     let count = usize::from(u16::from_le_bytes([bytes[5], bytes[6]]));
-    if count > 2000 {
+    if count > MOST_MILLIMETRES {
         return Err(PitchFault::Count);
     }
     if bytes.len() != 8 + 4 * count {

@@ -6,6 +6,7 @@ ghost use Prim.Native.Nat.{_≤_, _<_};
 ghost use lib.Dec.{ltb};
 ghost use Rattle.std.specs.Of.Vec.{vec-len, vec-items};
 ghost use Rattle.std.specs.Results.{isOk, Cases};
+ghost use Rattle.pitch.specs.Limits.{mostMillimetres};
 ghost use Rattle.pitch.specs.declared.table.TableFault.the-variants.{Memory, TooMany};
 use std::alloc::Global;
 
@@ -24,19 +25,22 @@ pub struct Entry {
     pub back: i16,
 }
 
+/// The most millimetres of a table.
+pub const MOST_MILLIMETRES: usize = 2000;
+
 /// The errors of one screw, a millimetre apart.
 #[derive(Drop)]
 pub struct Table {
     pub axis: Axis,
     pub screw: u16,
     pub entries: Vec<Entry>,
-    ghost few: { vec-len entries ≤ 2000 },
+    ghost few: { vec-len entries ≤ mostMillimetres },
 }
 
 /// Why a millimetre was not added.
 #[derive(Clone, Copy, PartialEq, Eq, Debug)]
 pub enum TableFault {
-    /// Memory lacks.
+    /// There is not enough memory.
     Memory,
     /// The table has 2000 already.
     TooMany,
@@ -61,9 +65,9 @@ impl Table {
         ensures axis { λ r. ⌜ now (self .exit) .axis ≡ now (self .entry) .axis ⌝ }
         ensures screw { λ r. ⌜ now (self .exit) .screw ≡ now (self .entry) .screw ⌝ }
         ensures entries { λ r. ⌜ vec-items (now (self .exit) .entries) ≡ cond (isOk r) (vec-items (now (self .entry) .entries) ++ entry ∷ []) (vec-items (now (self .entry) .entries)) ⌝ }
-        ensures cases { λ r. ⌜ Cases r (λ _. vec-len (now (self .entry) .entries) < 2000) (λ e. e ≡ cond (ltb (vec-len (now (self .entry) .entries)) 2000) Memory TooMany) ⌝ }
+        ensures cases { λ r. ⌜ Cases r (λ _. vec-len (now (self .entry) .entries) < mostMillimetres) (λ e. e ≡ cond (ltb (vec-len (now (self .entry) .entries)) mostMillimetres) Memory TooMany) ⌝ }
     {
-        if self.entries.len() >= 2000 {
+        if self.entries.len() >= MOST_MILLIMETRES {
             return Err(TableFault::TooMany);
         }
         match self.entries.push(entry) {

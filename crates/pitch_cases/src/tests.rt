@@ -165,8 +165,5 @@ fn bad_errors(rt: LibcRuntime) -> Result<(), Fail> {
         line: 3,
         what: What::Words,
     };
-    check_eq(
-        format!(heap, "{fault}")?.as_str(),
-        "line 3: neither an axis, a screw nor two errors",
-    )
+    check_eq(format!(heap, "{fault}")?.as_str(), "line 3: not two words")
 }

@@ -16,9 +16,6 @@ pub record Scan (p : ℕ → Bool) (xs : List ℕ) (i : ℕ) : Type 0 where
   pub front : upTo p xs ≡ take i xs ++ upTo p (drop i xs)
   pub back : from p xs ≡ from p (drop i xs)
 
-pub scan-none : (p : ℕ → Bool) (xs : List ℕ) → Scan p xs 0
-scan-none p xs = record { front = refl; back = refl }
-
 pub scan-more : (p : ℕ → Bool) (xs : List ℕ) (i : ℕ) → i < length xs → p (getD xs i 0) ≡ false → Scan p xs i → Scan p xs (i + 1)
 scan-more p xs i h left s =
     let d : drop i xs ≡ getD xs i 0 ∷ drop (i + 1) xs = drop-more xs i 0 h in

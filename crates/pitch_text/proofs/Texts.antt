@@ -1,5 +1,5 @@
 -- Reading a text, a line at a time. Assumes nothing.
-use mathlib.Core.Path.{_≡_, sym, ap, _∙_}
+use mathlib.Core.Path.{_≡_, refl, sym, ap, subst, _∙_}
 use mathlib.Core.Bool.{Bool, true, false, cond}
 use mathlib.Core.List.{List, _∷_, []}
 use mathlib.Core.Logic.{_⊎_, inl, inr}
@@ -9,13 +9,15 @@ use lib.Dec.{eqb}
 use lib.ListN.{length}
 use Rattle.std.specs.declared.result.Result.{Result}
 use Rattle.std.specs.declared.result.Result.the-variants.{Ok, Err}
+use Rattle.std.specs.Results.{isOk}
 use Rattle.std.proofs.shelf.Lists.{length-drop}
+use Rattle.std.proofs.shelf.Tests.{both-ways}
 use Rattle.pitch_text.specs.declared.text.What.{What}
 use Rattle.pitch_text.specs.declared.text.What.the-variants.{Memory}
 use Rattle.pitch_text.specs.declared.text.TextFault.{TextFault}
 use Rattle.pitch.specs.Block.{Parts}
 use Rattle.pitch_text.specs.Words.{from, before, after, linesOf}
-use Rattle.pitch_text.specs.Text.{Sofar, rowIn, lineTaken, goOn, readLines, atEnd}
+use Rattle.pitch_text.specs.Text.{Sofar, start, hasAxis, hasScrew, ready, statementIn, lineTaken, goOn, readLines, atEnd, NotAfter}
 use Rattle.pitch_text.proofs.Scans.{lines-more}
 
 from-le : (p : ℕ → Bool) (xs : List ℕ) → length (from p xs) ≤ length xs
@@ -30,18 +32,35 @@ pub lines-cut : (xs : List ℕ) → 0 < length xs → linesOf xs ≡ before 10 x
 lines-cut [] h = absurd (omega arith)
 lines-cut (x ∷ xs) h = lines-more x xs
 
+-- a fault in the lines after the first n has a later line
+not-after : (k n : ℕ) (s : Sofar) (ls : List (List ℕ)) → 1 ≤ k → k ≤ n → NotAfter k (readLines n s ls)
+not-after k n start [] one le = (one, le)
+not-after k n (hasAxis a) [] one le = (one, le)
+not-after k n (hasScrew s) [] one le = (one, le)
+not-after k n (ready p) [] one le = one
+not-after k n s (l ∷ ls) one le =
+    elim (lineTaken (statementIn l) s) as (λ o. NotAfter k (goOn (n + 1) o (λ t. readLines (n + 1) t ls))) [
+      | Err w ↦ (one, omega arith)
+      | Ok t ↦ not-after k (n + 1) t ls one (omega arith)
+    ]
+
 module _ (n : ℕ) (s : Sofar) (rest one more : List ℕ) (want : Result Parts TextFault) (some : 0 < length rest) (first : one ≡ before 10 rest) (others : more ≡ after 10 rest) (inv : readLines n s (linesOf rest) ≡ want) where
-  unfolded : goOn (n + 1) (lineTaken (rowIn one) s) (λ t. readLines (n + 1) t (linesOf more)) ≡ want
+  unfolded : goOn (n + 1) (lineTaken (statementIn one) s) (λ t. readLines (n + 1) t (linesOf more)) ≡ want
   unfolded = rw (first, others) (sym (ap (readLines n s) (lines-cut rest some)) ∙ inv)
 
   -- a line was read
-  pub read-line : (t : Sofar) → lineTaken (rowIn one) s ≡ Ok t → readLines (n + 1) t (linesOf more) ≡ want
+  pub read-line : (t : Sofar) → lineTaken (statementIn one) s ≡ Ok t → readLines (n + 1) t (linesOf more) ≡ want
   read-line t e = rw e at unfolded
 
   -- a line was refused
-  pub refused : (w : What) → (lineTaken (rowIn one) s ≡ Err w) ⊎ (w ≡ Memory) → (want ≡ Err (record { line = n + 1; what = w })) ⊎ (w ≡ Memory)
+  pub refused : (w : What) → (lineTaken (statementIn one) s ≡ Err w) ⊎ ((w ≡ Memory) × (isOk (lineTaken (statementIn one) s) ≡ true))
+      → (want ≡ Err (record { line = n + 1; what = w })) ⊎ ((w ≡ Memory) × NotAfter (n + 1) want)
   refused w (inl e) = inl (sym (rw e at unfolded))
-  refused w (inr e) = inr e
+  refused w (inr e) = inr (e .0, no-fault (lineTaken (statementIn one) s) refl)
+    where
+      no-fault : (o : Result Sofar What) → lineTaken (statementIn one) s ≡ o → NotAfter (n + 1) want
+      no-fault (Ok t) is = subst (NotAfter (n + 1)) (read-line t is) (not-after (n + 1) (n + 1) t (linesOf more) (omega arith) (omega arith))
+      no-fault (Err v) is = let z : true ≡ false = sym (e .1) ∙ ap isOk is in absurd (both-ways false refl (sym z))
 
 -- no line is left
 pub read-end : (n : ℕ) (s : Sofar) (rest : List ℕ) (want : Result Parts TextFault) → length rest ≡ 0 → readLines n s (linesOf rest) ≡ want → atEnd n s ≡ want

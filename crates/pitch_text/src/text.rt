@@ -1,7 +1,7 @@
 // Pitch tables as text: `axis X`, `screw 17`, then a line for each millimetre with the forward and the return error in micrometres.
 ghost use mathlib.Core.Path.{_≡_};
 ghost use Rattle.std.specs.declared.option.Option.the-variants.{Some};
-ghost use Rattle.pitch_text.specs.Text.{messageOf, faultText, pairRow, axisRow, rowIn, sofarOf, named, numbered, added, lineTaken, Takes, atEnd, readText, Reads};
+ghost use Rattle.pitch_text.specs.Text.{messageOf, faultText, pairStatement, axisStatement, statementIn, sofarOf, named, numbered, measured, lineTaken, Takes, atEnd, readText, Reads};
 use crate::words::cut;
 use crate::words::is_same;
 use crate::words::next_word;
@@ -17,15 +17,15 @@ use std::fmt;
 /// What is wrong with a line.
 #[derive(Clone, Copy, PartialEq, Eq, Debug)]
 pub enum What {
-    /// Memory lacks.
+    /// There is not enough memory.
     Memory,
     /// The axis is not X, Y or Z.
     Axis,
     /// The screw's number is not 0 to 65535.
     Screw,
-    /// The line has neither an axis, a screw nor two errors.
+    /// The line has one word, or more than two.
     Words,
-    /// An error is not -32768 to 32767.
+    /// The line has neither an axis, a screw nor two errors from -32768 to 32767.
     Number,
     /// There are more than 2000 millimetres.
     TooMany,
@@ -37,7 +37,7 @@ pub enum What {
     Missing,
 }
 
-/// What is wrong, and in which line, from 1.
+/// What is wrong, and in which line, from 1; line 0 is an empty text.
 #[derive(Clone, Copy, PartialEq, Eq, Debug)]
 pub struct TextFault {
     pub line: usize,
@@ -51,8 +51,8 @@ fn message(what: What) -> &'static str
         What::Memory => "no memory",
         What::Axis => "the axis is not X, Y or Z",
         What::Screw => "the number of the screw is not 0 to 65535",
-        What::Words => "neither an axis, a screw nor two errors",
-        What::Number => "an error is not -32768 to 32767",
+        What::Words => "not two words",
+        What::Number => "neither an axis, a screw nor two errors from -32768 to 32767",
         What::TooMany => "more than 2000 millimetres",
         What::Early => "errors before the axis and the screw",
         What::Twice => "the axis or the screw for the second time",
@@ -72,7 +72,7 @@ pub impl fmt::Display for TextFault as TextFaultDisplay {
 
 // What one line says.
 #[derive(Clone, Copy)]
-enum Row {
+enum Statement {
     Named(Axis),
     Numbered(u16),
     Errors(Entry),
@@ -88,31 +88,31 @@ enum Reading {
     Ready(Table),
 }
 
-fn axis_row(word: &[u8]) -> Result<Row, What>
-    ensures { λ r. ⌜ r ≡ axisRow (now (word .entry)) ⌝ }
+fn axis_statement(word: &[u8]) -> Result<Statement, What>
+    ensures { λ r. ⌜ r ≡ axisStatement (now (word .entry)) ⌝ }
 {
     if is_same(word, b"X") {
-        return Ok(Row::Named(Axis::X));
+        return Ok(Statement::Named(Axis::X));
     }
     if is_same(word, b"Y") {
-        return Ok(Row::Named(Axis::Y));
+        return Ok(Statement::Named(Axis::Y));
     }
     if is_same(word, b"Z") {
-        return Ok(Row::Named(Axis::Z));
+        return Ok(Statement::Named(Axis::Z));
     }
     Err(What::Axis)
 }
 
 // What a line of two words says.
-fn pair_row(first: &[u8], second: &[u8]) -> Result<Row, What>
-    ensures { λ r. ⌜ r ≡ pairRow (now (first .entry)) (now (second .entry)) ⌝ }
+fn pair_statement(first: &[u8], second: &[u8]) -> Result<Statement, What>
+    ensures { λ r. ⌜ r ≡ pairStatement (now (first .entry)) (now (second .entry)) ⌝ }
 {
     if is_same(first, b"axis") {
-        return axis_row(second);
+        return axis_statement(second);
     }
     if is_same(first, b"screw") {
         return match number(second, 65535) {
-            Some(screw) => Ok(Row::Numbered(screw)),
+            Some(screw) => Ok(Statement::Numbered(screw)),
             None => Err(What::Screw),
         };
     }
@@ -122,24 +122,24 @@ fn pair_row(first: &[u8], second: &[u8]) -> Result<Row, What>
     let Some(back) = signed(second) else {
         return Err(What::Number);
     };
-    Ok(Row::Errors(Entry { forward, back }))
+    Ok(Statement::Errors(Entry { forward, back }))
 }
 
 // What a line says, up to a `#`.
-fn row_in(line: &[u8]) -> Result<Row, What>
-    ensures { λ r. ⌜ r ≡ rowIn (now (line .entry)) ⌝ }
+fn statement_in(line: &[u8]) -> Result<Statement, What>
+    ensures { λ r. ⌜ r ≡ statementIn (now (line .entry)) ⌝ }
 {
     let (said, _) = cut(line, b'#');
     let (first, rest) = next_word(said);
     if first.is_empty() {
-        return Ok(Row::Nothing);
+        return Ok(Statement::Nothing);
     }
     let (second, rest) = next_word(rest);
     let (third, _) = next_word(rest);
     if second.is_empty() || !third.is_empty() {
         return Err(What::Words);
     }
-    pair_row(first, second)
+    pair_statement(first, second)
 }
 
 impl Reading {
@@ -164,7 +164,7 @@ impl Reading {
     }
 
     fn add(self, entry: Entry) -> Result<Reading, What>
-        ensures { λ r. ⌜ Takes r (added entry (sofarOf self)) ⌝ }
+        ensures { λ r. ⌜ Takes r (measured entry (sofarOf self)) ⌝ }
     {
         let Reading::Ready(mut table) = self else {
             return Err(What::Early);
@@ -178,13 +178,13 @@ impl Reading {
 
     // Reads one more line.
     fn take(self, heap: Global, line: &[u8]) -> Result<Reading, What>
-        ensures { λ r. ⌜ Takes r (lineTaken (rowIn (now (line .entry))) (sofarOf self)) ⌝ }
+        ensures { λ r. ⌜ Takes r (lineTaken (statementIn (now (line .entry))) (sofarOf self)) ⌝ }
     {
-        match row_in(line) {
-            Ok(Row::Named(axis)) => self.name(heap, axis),
-            Ok(Row::Numbered(screw)) => self.number(heap, screw),
-            Ok(Row::Errors(entry)) => self.add(entry),
-            Ok(Row::Nothing) => Ok(self),
+        match statement_in(line) {
+            Ok(Statement::Named(axis)) => self.name(heap, axis),
+            Ok(Statement::Numbered(screw)) => self.number(heap, screw),
+            Ok(Statement::Errors(entry)) => self.add(entry),
+            Ok(Statement::Nothing) => Ok(self),
             Err(what) => Err(what),
         }
     }

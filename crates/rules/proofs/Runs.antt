@@ -6,8 +6,8 @@ use Prim.Native.Nat.{ℕ, zero, suc, _-_, _%_, _^_, _<_, _≤_}
 use native.Mathlib.Omega.{arith}
 use Rattle.std.proofs.shelf.Tests.{le-ltb, ltb-true, ltb-false, cases-bool}
 use Rattle.rules.specs.Draws.{step, width, within, draw, drawn, seed}
-use Rattle.rules.specs.Bound.{fallen, reached, after, FewFall, NoLongRun, DrawsTheFirst}
-use Rattle.rules.proofs.Falling.{few, fallen-none, fallen-out}
+use Rattle.rules.specs.Bound.{Register-small, rejected, reached, after, FewRejected, NoLongRun, DrawsTheFirst}
+use Rattle.rules.proofs.Rejecting.{few, rejected-none, rejected-out}
 use Rattle.rules.proofs.Turns.{drawn-below, draw-in, draw-out}
 
 reached-below : (count m x : ℕ) → x < 2 ^ 24 → reached count m x < 2 ^ 24
@@ -15,18 +15,21 @@ unfolding reached
 reached-below zero m x h = h
 reached-below (suc count) m x h = reached-below count m (drawn m x) (drawn-below m x h)
 
-pub few-fall : FewFall
-few-fall m n count most h4 h above last = few most m (reached count m (seed m n)) h4 h (reached-below count m (seed m n) (omega arith))
+pub register-small : Register-small
+register-small m n count above last = reached-below count m (seed m n) (omega arith)
 
-all-fall : (most m x : ℕ) → ((j : ℕ) → 1 ≤ j → j ≤ most → m ≤ after j x % width m) → fallen most m x ≡ most
+pub few-rejected : FewRejected
+few-rejected m n count most h4 h above last = few most m (reached count m (seed m n)) h4 h (register-small m n count above last)
+
+all-rejected : (most m x : ℕ) → ((j : ℕ) → 1 ≤ j → j ≤ most → m ≤ after j x % width m) → rejected most m x ≡ most
 unfolding after within
-all-fall zero m x all = fallen-none m x
-all-fall (suc most) m x all =
+all-rejected zero m x all = rejected-none m x
+all-rejected (suc most) m x all =
     let first : within m (step x) ≡ false = le-ltb (step x % width m) m (all 1 (omega arith) (omega arith)) in
-    fallen-out most m x first ∙ ap suc (all-fall most m (step x) (λ j lo hi. all (suc j) (omega arith) (omega arith)))
+    rejected-out most m x first ∙ ap suc (all-rejected most m (step x) (λ j lo hi. all (suc j) (omega arith) (omega arith)))
 
 pub no-long-run : NoLongRun 20
-no-long-run m x h4 h below all = omega (arith, few 21 m x h4 h below, all-fall 21 m x all)
+no-long-run m x h4 h below all = omega (arith, few 21 m x h4 h below, all-rejected 21 m x all)
 
 abbrev First : ℕ → ℕ → ℕ → ℕ → Type 0
 First most m x j =
@@ -38,14 +41,14 @@ unfolding after
 before m x j out rest zero h = out
 before m x j out rest (suc i) h = rest i (omega arith)
 
-first : (most m x : ℕ) → fallen most m x < most → (j : ℕ) × First most m x j
+first : (most m x : ℕ) → rejected most m x < most → (j : ℕ) × First most m x j
 unfolding after within
 first zero m x h = absurd (omega arith)
 first (suc most) m x h =
     ⊎-elim
     (λ e. (0, (omega arith, draw-in most m x e, ltb-true (step x % width m) m e, λ i lt. absurd (omega arith))))
     (λ e.
-    let next = first most m (step x) (omega (arith, fallen-out most m x e)) in
+    let next = first most m (step x) (omega (arith, rejected-out most m x e)) in
     let out = ltb-false (step x % width m) m e in
     (suc (next .0), (omega (arith, next .1 .0), draw-out most m x e ∙ next .1 .1, next .1 .2, before m x (next .0) out (next .1 .3))))
     (cases-bool (within m (step x)))

@@ -18,27 +18,31 @@ bit-0 x = let low : bitAnd x 1 ≡ x % 2 = and-mask x 1 in omega arith
 bit-5 : (x : ℕ) → bitAnd (x / 32) 1 ≡ bit 5 x
 bit-5 x = and-mask (x / 32) 1
 
-abbrev fed : ℕ → ℕ
-fed x = bitXor (bitAnd x 1) (bitAnd (x / 32) 1)
-
-fed-is : (x : ℕ) → fed x ≡ bitXor (bit 0 x) (bit 5 x)
-fed-is x = ap (λ n. bitXor n (bitAnd (x / 32) 1)) (bit-0 x) ∙ ap (bitXor (bit 0 x)) (bit-5 x)
+-- what a step feeds in
+unfoldable pub fed : ℕ → ℕ
+fed x = bitXor (bit 0 x) (bit 5 x)
 
 pub fed-below : (x : ℕ) → fed x < 2
-fed-below x = omega (arith, fed-is x, xor-lt 1 (bit 0 x) (bit 5 x) (omega arith) (omega arith))
+unfolding fed
+fed-below x = xor-lt 1 (bit 0 x) (bit 5 x) (omega arith) (omega arith)
 
-pub step-code : (x : ℕ) → x / 2 + (fed x * 4194304) % 4294967296 ≡ step x
-unfolding step
-step-code x = omega (arith, fed-is x, fed-below x)
+-- the code's way to get it
+pub fed-code : (x : ℕ) → bitXor (bitAnd x 1) (bitAnd (x / 32) 1) ≡ fed x
+unfolding fed
+fed-code x = ap (λ n. bitXor n (bitAnd (x / 32) 1)) (bit-0 x) ∙ ap (bitXor (bit 0 x)) (bit-5 x)
 
--- ## The test for a power of two, at each number that a line count can be
+pub step-code : (x : ℕ) → x / 2 + (bitXor (bitAnd x 1) (bitAnd (x / 32) 1) * 4194304) % 4294967296 ≡ step x
+unfolding step fed
+step-code x = omega (arith, fed-code x, fed-below x)
 
-abbrev agree : ℕ → Bool
-agree m = Bool·beq (eqb (ones m) 1) (oneOf m powers)
+-- ## The test for a power of two, at each M
 
-abbrev all-agree : ℕ → Bool
-all-agree zero = true
-all-agree (suc n) = agree n && all-agree n
+abbrev tests-agree : ℕ → Bool
+tests-agree m = Bool·beq (eqb (ones m) 1) (oneOf m powers)
+
+abbrev all-tests-agree : ℕ → Bool
+all-tests-agree zero = true
+all-tests-agree (suc n) = tests-agree n && all-tests-agree n
 
 beq-true : (a b : Bool) → Bool·beq a b ≡ true → a ≡ b
 beq-true true true e = refl
@@ -49,7 +53,7 @@ beq-true false false e = refl
 pub power-test : (m : ℕ) → m ≤ 256 → eqb (ones m) 1 ≡ oneOf m powers
 unfolding ones
 power-test m h =
-    let all = decides-below-and agree (λ k. agree k ≡ true) all-agree (λ k. (λ e. e, λ e. e)) refl (λ _. refl) 257 in
+    let all = decides-below-and tests-agree (λ k. tests-agree k ≡ true) all-tests-agree (λ k. (λ e. e, λ e. e)) refl (λ _. refl) 257 in
     beq-true (eqb (ones m) 1) (oneOf m powers) (all .0 refl m (suc-le h))
   where
     suc-le : m ≤ 256 → m < 257

@@ -10,10 +10,10 @@ use lib.ListN.{length, set, replicate}
 use Rattle.std.proofs.shelf.Lists.{length-set, length-replicate, set-append-left}
 use Rattle.std.proofs.shelf.Tests.{cases-bool, cond-true, cond-false, cond-both, ltb-true, lt-ltb, le-ltb}
 use Rattle.rules.specs.Draws.{step, width, within, draw, drawn, draws, seed, publishedMarks}
-use Rattle.rules.specs.Bound.{fallen}
+use Rattle.rules.specs.Bound.{rejected}
 use Rattle.rules.specs.Filling.{single}
 use Rattle.rules.proofs.Rows.{length-single}
-use Rattle.rules.proofs.Falling.{few, few-after, step-below, fallen-in, fallen-out}
+use Rattle.rules.proofs.Rejecting.{few, few-after, step-below, rejected-in, rejected-out}
 
 pub draw-in : (most m x : ℕ) → within m (step x) ≡ true → draw (suc most) m x ≡ step x
 unfolding draw
@@ -24,28 +24,28 @@ unfolding draw
 draw-out most m x t = cond-false (within m (step x)) (step x) (draw most m (step x)) t
 
 -- where a draw has ended, one value more does not matter
-draw-enough : (most m x : ℕ) → fallen most m x < most → draw most m x ≡ draw (suc most) m x
+draw-enough : (most m x : ℕ) → rejected most m x < most → draw most m x ≡ draw (suc most) m x
 draw-enough zero m x h = absurd (omega arith)
 draw-enough (suc most) m x h =
     ⊎-elim
     (λ e. draw-in most m x e ∙ sym (draw-in (suc most) m x e))
-    (λ e. draw-out most m x e ∙ draw-enough most m (step x) (omega (arith, fallen-out most m x e)) ∙ sym (draw-out (suc most) m x e))
+    (λ e. draw-out most m x e ∙ draw-enough most m (step x) (omega (arith, rejected-out most m x e)) ∙ sym (draw-out (suc most) m x e))
     (cases-bool (within m (step x)))
 
-fallen-enough : (most m x : ℕ) → fallen most m x < most → fallen most m x ≡ fallen (suc most) m x
-fallen-enough zero m x h = absurd (omega arith)
-fallen-enough (suc most) m x h =
+rejected-enough : (most m x : ℕ) → rejected most m x < most → rejected most m x ≡ rejected (suc most) m x
+rejected-enough zero m x h = absurd (omega arith)
+rejected-enough (suc most) m x h =
     ⊎-elim
-    (λ e. fallen-in most m x e ∙ sym (fallen-in (suc most) m x e))
-    (λ e. fallen-out most m x e ∙ ap suc (fallen-enough most m (step x) (omega (arith, fallen-out most m x e))) ∙ sym (fallen-out (suc most) m x e))
+    (λ e. rejected-in most m x e ∙ sym (rejected-in (suc most) m x e))
+    (λ e. rejected-out most m x e ∙ ap suc (rejected-enough most m (step x) (omega (arith, rejected-out most m x e))) ∙ sym (rejected-out (suc most) m x e))
     (cases-bool (within m (step x)))
 
-draw-within : (most m x : ℕ) → fallen most m x < most → within m (draw most m x) ≡ true
+draw-within : (most m x : ℕ) → rejected most m x < most → within m (draw most m x) ≡ true
 draw-within zero m x h = absurd (omega arith)
 draw-within (suc most) m x h =
     ⊎-elim
     (λ e. ap (within m) (draw-in most m x e) ∙ e)
-    (λ e. ap (within m) (draw-out most m x e) ∙ draw-within most m (step x) (omega (arith, fallen-out most m x e)))
+    (λ e. ap (within m) (draw-out most m x e) ∙ draw-within most m (step x) (omega (arith, rejected-out most m x e)))
     (cases-bool (within m (step x)))
 
 draw-below : (most m x : ℕ) → x < 2 ^ 24 → draw most m x < 2 ^ 24
@@ -74,9 +74,9 @@ unfolding drawn
 drawn-out m x h4 h below t = draw-out 20 m x t ∙ draw-enough 20 m (step x) (omega (arith, few-after 20 m x h4 h below t))
 
 -- and fewer are left that fall out
-pub fewer-left : (m x : ℕ) → 4 ≤ m → m ≤ 256 → x < 2 ^ 24 → within m (step x) ≡ false → fallen 21 m (step x) < fallen 21 m x
+pub fewer-left : (m x : ℕ) → 4 ≤ m → m ≤ 256 → x < 2 ^ 24 → within m (step x) ≡ false → rejected 21 m (step x) < rejected 21 m x
 fewer-left m x h4 h below t =
-    omega (arith, fallen-out 20 m x t, fallen-enough 20 m (step x) (omega (arith, few-after 20 m x h4 h below t)))
+    omega (arith, rejected-out 20 m x t, rejected-enough 20 m (step x) (omega (arith, few-after 20 m x h4 h below t)))
 
 -- ## The loop of the draws
 

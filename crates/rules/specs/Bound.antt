@@ -7,9 +7,9 @@ use Rattle.rules.specs.Filling.{lastNumber}
 use Rattle.rules.specs.Draws.{step, width, within, drawn, seed}
 
 -- how many values fall out before one is within, looking at the first `most` values after x
-unfoldable pub fallen : ℕ → ℕ → ℕ → ℕ
-fallen zero m x = 0
-fallen (suc most) m x = cond (within m (step x)) 0 (suc (fallen most m (step x)))
+unfoldable pub rejected : ℕ → ℕ → ℕ → ℕ
+rejected zero m x = 0
+rejected (suc most) m x = cond (within m (step x)) 0 (suc (rejected most m (step x)))
 
 -- the register after as many draws
 unfoldable pub reached : ℕ → ℕ → ℕ → ℕ
@@ -17,8 +17,12 @@ reached zero m x = x
 reached (suc count) m x = reached count m (drawn m x)
 
 -- in each draw for each fragment number at most 20 values fall out in a row, however many are looked at
-abbrev pub FewFall : Type 0
-FewFall = (m n count most : ℕ) → 4 ≤ m → m ≤ mostFragments → m < n → n ≤ lastNumber → fallen most m (reached count m (seed m n)) ≤ 20
+abbrev pub FewRejected : Type 0
+FewRejected = (m n count most : ℕ) → 4 ≤ m → m ≤ mostFragments → m < n → n ≤ lastNumber → rejected most m (reached count m (seed m n)) ≤ 20
+
+-- and the register stays below 2^24, wherever a draw for a fragment number begins
+abbrev pub Register-small : Type 0
+Register-small = (m n count : ℕ) → m < n → n ≤ lastNumber → reached count m (seed m n) < 2 ^ 24
 
 -- the register after as many steps
 unfoldable pub after : ℕ → ℕ → ℕ

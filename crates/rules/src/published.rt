@@ -2,13 +2,16 @@
 ghost use mathlib.Core.Path.{_≡_};
 ghost use Prim.Native.Nat.{_/_, _^_, _<_, _≤_};
 ghost use lib.ListN.{length};
+ghost use Rattle.coding.specs.Blocks.{mostFragments};
+ghost use Rattle.rules.specs.Filling.{lastNumber};
 ghost use Rattle.rules.specs.Draws.{step as stepped, width, draws, seed, publishedServes, publishedRow};
-ghost use Rattle.rules.specs.Bound.{FewFall, NoLongRun, DrawsTheFirst};
+ghost use Rattle.rules.specs.Bound.{FewRejected, Register-small, NoLongRun, DrawsTheFirst};
 use crate::line_rule::LAST;
 use crate::line_rule::LineRule;
 use crate::line_rule::RowFault;
 use crate::marks::clear;
 use crate::marks::only;
+use coding::MOST_FRAGMENTS;
 
 // The next value of the shift register.
 fn step(x: u32) -> u32
@@ -22,7 +25,7 @@ fn step(x: u32) -> u32
 
 // What a value is divided by.
 fn divisor(m: u16) -> u32
-    requires { ⌜ m ≤ 256 ⌝ }
+    requires { ⌜ m ≤ mostFragments ⌝ }
     ensures { λ r. ⌜ r ≡ width m ⌝ }
 {
     if m.is_power_of_two() {
@@ -34,7 +37,7 @@ fn divisor(m: u16) -> u32
 
 // Where the register starts for the fragment number n.
 fn start(m: u16, n: u16) -> u32
-    requires { ⌜ m < n ⌝ ∗ ⌜ n ≤ 16383 ⌝ }
+    requires { ⌜ m < n ⌝ ∗ ⌜ n ≤ lastNumber ⌝ }
     ensures { λ r. ⌜ r ≡ seed m n ⌝ }
 {
     1 + 1001 * u32::from(n - m)
@@ -42,7 +45,7 @@ fn start(m: u16, n: u16) -> u32
 
 // Sets the marks that the draws for the fragment number n hit.
 fn draw_marks(m: u16, n: u16, marks: &mut [bool])
-    requires { ⌜ 4 ≤ m ⌝ ∗ ⌜ m ≤ 256 ⌝ ∗ ⌜ m < n ⌝ ∗ ⌜ n ≤ 16383 ⌝ ∗ ⌜ m ≤ length (now marks) ⌝ }
+    requires { ⌜ 4 ≤ m ⌝ ∗ ⌜ m ≤ mostFragments ⌝ ∗ ⌜ m < n ⌝ ∗ ⌜ n ≤ lastNumber ⌝ ∗ ⌜ m ≤ length (now marks) ⌝ }
     ensures { λ _. ⌜ now (marks .exit) ≡ draws (m / 2) m (seed m n) (now (marks .entry)) ⌝ }
 {
     let fragments = u32::from(m);
@@ -61,7 +64,7 @@ fn draw_marks(m: u16, n: u16, marks: &mut [bool])
     }
 }
 
-/// FragAlgo 0, M 4–256: the rows of the generator that TS004's authors published.
+/// FragAlgo 0, M 4–256: the rows of the generator in the public LoRaWAN code for TS004, LoRaMac-node.
 #[derive(Clone, Copy)]
 pub struct Published;
 
@@ -71,7 +74,7 @@ pub impl LineRule for Published as PublishedRule {
     ghost row = { λ _. publishedRow };
 
     fn serves(&self, algo: u8, m: u16) -> bool {
-        algo == 0 && 4 <= m && m <= 256
+        algo == 0 && 4 <= m && m <= MOST_FRAGMENTS
     }
 
     fn fill(&self, algo: u8, m: u16, n: u16, marks: &mut [bool]) -> Result<(), RowFault> {
@@ -95,7 +98,8 @@ pub impl LineRule for Published as PublishedRule {
 // The proofs are cited here, so that the public function has no proof file of its own.
 fn bounded() -> u8
     ensures answer { λ r. ⌜ r ≡ 20 ⌝ }
-    ensures bound { λ _. ⌜ FewFall ⌝ }
+    ensures bound { λ _. ⌜ FewRejected ⌝ }
+    ensures register { λ _. ⌜ Register-small ⌝ }
     ensures run { λ r. ⌜ NoLongRun r ⌝ }
     ensures first { λ r. ⌜ DrawsTheFirst r ⌝ }
 {
@@ -103,9 +107,10 @@ fn bounded() -> u8
 }
 
 /// The bound on how many values fall out in a row in one draw, on which the end of a draw rests. A draw takes the first value that does not.
-pub fn most_fallen() -> u8
+pub fn most_rejected() -> u8
     ensures answer { λ r. ⌜ r ≡ 20 ⌝ }
-    ensures bound { λ _. ⌜ FewFall ⌝ }
+    ensures bound { λ _. ⌜ FewRejected ⌝ }
+    ensures register { λ _. ⌜ Register-small ⌝ }
     ensures run { λ r. ⌜ NoLongRun r ⌝ }
     ensures first { λ r. ⌜ DrawsTheFirst r ⌝ }
 {

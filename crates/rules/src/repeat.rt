@@ -6,6 +6,7 @@ use crate::line_rule::LAST;
 use crate::line_rule::LineRule;
 use crate::line_rule::RowFault;
 use crate::marks::only;
+use coding::MOST_FRAGMENTS;
 
 // The place, from 0, of the fragment that number n repeats.
 fn place(m: u16, n: u16) -> u16
@@ -25,7 +26,7 @@ pub impl LineRule for Repeat as RepeatRule {
     ghost row = { λ _. repeatRow };
 
     fn serves(&self, algo: u8, m: u16) -> bool {
-        algo == 7 && 1 <= m && m <= 256
+        algo == 7 && 1 <= m && m <= MOST_FRAGMENTS
     }
 
     fn fill(&self, algo: u8, m: u16, n: u16, marks: &mut [bool]) -> Result<(), RowFault> {

@@ -5,11 +5,12 @@ use mathlib.Core.List.{List, [], _∷_}
 use Prim.Native.Nat.{ℕ, zero, suc, _-_, _%_}
 use lib.Dec.{eqb}
 use lib.ListN.{length, set, replicate}
+use Rattle.std.specs.Options.{isSome}
 use Rattle.std.specs.declared.option.Option.{Option}
 use Rattle.std.specs.declared.option.Option.the-variants.{Some, None}
 use Rattle.coding.specs.Rows.{Row}
 use Rattle.coding.specs.Blocks.{zeros, xors}
-use Rattle.coding.specs.Lines.{Slot, Slot.empty, missing, Outcome, Outcome.spare, Outcome.into, arrive, settle}
+use Rattle.coding.specs.Lines.{Slot, Slot.empty, missing, Outcome, Outcome.dependent, Outcome.into, arrive, settle}
 use Rattle.rules.specs.Draws.{step, width, seed, publishedRow}
 
 -- what became of a fragment
@@ -31,8 +32,8 @@ pub data Case : Type 0 where
   -- m fragments of s bytes: what is received from the start on, and the cells once no line is empty
   session : (m s : ℕ) → List Received → List (List ℕ) → Case
 
-abbrev got : ℕ → ℕ → Said → ℕ → Received
-got n x a k = record { number = n; bytes = x ∷ []; said = a; left = k }
+abbrev receive : ℕ → ℕ → Said → ℕ → Received
+receive n x a k = record { number = n; bytes = x ∷ []; said = a; left = k }
 
 abbrev pub table : List Case
 table =
@@ -44,9 +45,9 @@ table =
     ∷ marks 4 13 (4 ∷ 2 ∷ [])
     ∷ values 4 13 (4 ∷ 3 ∷ 4 ∷ 1 ∷ [])
     ∷ session 5 1
-    (got 1 0x01 taken 4 ∷ got 6 0x05 taken 3 ∷ got 8 0x0A taken 2 ∷ got 14 0x18 taken 1 ∷ got 12 0x08 taken 0 ∷ [])
+    (receive 1 0x01 taken 4 ∷ receive 6 0x05 taken 3 ∷ receive 8 0x0A taken 2 ∷ receive 14 0x18 taken 1 ∷ receive 12 0x08 taken 0 ∷ [])
     ((0x01 ∷ []) ∷ (0x02 ∷ []) ∷ (0x04 ∷ []) ∷ (0x08 ∷ []) ∷ (0x10 ∷ []) ∷ [])
-    ∷ session 5 1 (got 6 0x05 taken 4 ∷ got 7 0x05 known 4 ∷ got 7 0x04 contradicts 4 ∷ []) []
+    ∷ session 5 1 (receive 6 0x05 taken 4 ∷ receive 7 0x05 known 4 ∷ receive 7 0x04 contradicts 4 ∷ []) []
     ∷ []
 
 -- ---- what a case says
@@ -55,10 +56,11 @@ abbrev pub marking : ℕ → List ℕ → Row
 marking m [] = replicate m false
 marking m (k ∷ ks) = set (marking m ks) (k - 1) true
 
-abbrev pub looks : ℕ → ℕ → ℕ → List ℕ
-looks zero m x = []
-looks (suc count) m x = step x % width m ∷ looks count m (step x)
+abbrev pub registerValues : ℕ → ℕ → ℕ → List ℕ
+registerValues zero m x = []
+registerValues (suc count) m x = step x % width m ∷ registerValues count m (step x)
 
+-- the row, which a case makes sure is there
 abbrev pub rowOr : Option Row → Row
 rowOr (Some row) = row
 rowOr None = []
@@ -68,11 +70,11 @@ allZero [] = true
 allZero (x ∷ xs) = eqb x 0 && allZero xs
 
 abbrev pub saying : Outcome (List ℕ) → Said
-saying (spare q) = cond (allZero q) known contradicts
+saying (dependent q) = cond (allZero q) known contradicts
 saying (into ls) = taken
 
 abbrev pub filling : List (Slot (List ℕ)) → Outcome (List ℕ) → List (Slot (List ℕ))
-filling ls (spare q) = ls
+filling ls (dependent q) = ls
 filling ls (into ls′) = ls′
 
 abbrev pub outcome : ℕ → List (Slot (List ℕ)) → Received → Outcome (List ℕ)
@@ -81,15 +83,12 @@ outcome m ls a = arrive ls (record { row = rowOr (publishedRow 0 m (a .number));
 abbrev pub Follows : ℕ → ℕ → List (Slot (List ℕ)) → List Received → List (List ℕ) → Type 0
 Follows m s ls [] cells = cond (eqb (missing ls) 0) (settle (zeros s) xors ls) [] ≡ cells
 Follows m s ls (a ∷ rest) cells =
-    (saying (outcome m ls a) ≡ a .said)
+    (isSome (publishedRow 0 m (a .number)) ≡ true)
+    × (saying (outcome m ls a) ≡ a .said)
     × (missing (filling ls (outcome m ls a)) ≡ a .left)
     × Follows m s (filling ls (outcome m ls a)) rest cells
 
 abbrev pub Holds : Case → Type 0
 Holds (marks m n ks) = publishedRow 0 m n ≡ Some (marking m ks)
-Holds (values m n rs) = looks (length rs) m (seed m n) ≡ rs
+Holds (values m n rs) = registerValues (length rs) m (seed m n) ≡ rs
 Holds (session m s received cells) = Follows m s (replicate m empty) received cells
-
-abbrev pub All-hold : List Case → Type 0
-All-hold [] = Unit {0}
-All-hold (c ∷ cs) = Holds c × All-hold cs

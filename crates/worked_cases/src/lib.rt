@@ -1,12 +1,13 @@
 // Worked cases: proved over the definitions, and rows that others printed, run through the code.
 ghost use mathlib.Core.Path.{_≡_};
 ghost use lib.ListN.{length};
-ghost use Rattle.worked_cases.specs.Table.{table, All-hold};
+ghost use Rattle.std.specs.shelf.Lists.{All};
+ghost use Rattle.worked_cases.specs.Table.{table, Holds};
 
 // The proof is cited here, so that the public function has no proof file of its own.
 fn computed() -> usize
     ensures count { λ r. ⌜ r ≡ length table ⌝ }
-    ensures cases { λ _. ⌜ All-hold table ⌝ }
+    ensures cases { λ _. ⌜ All Holds table ⌝ }
 {
     9
 }
@@ -14,7 +15,7 @@ fn computed() -> usize
 /// Every case of the table holds of the definitions that rules and decoding are proved against. Answers how many there are.
 pub fn cases_hold() -> usize
     ensures count { λ r. ⌜ r ≡ length table ⌝ }
-    ensures cases { λ _. ⌜ All-hold table ⌝ }
+    ensures cases { λ _. ⌜ All Holds table ⌝ }
 {
     computed()
 }

@@ -5,6 +5,7 @@ use native.Mathlib.Omega.{arith}
 use lib.ListN.{length}
 use Rattle.adding.specs.Sums.{Laws, added}
 use Rattle.adding.proofs.Turns.{added-none, added-more, added-all, added-back}
+use Rattle.adding.proofs.Lists.{added-is-sum}
 use Rattle.adding.proofs.add_front.Needs as need
 
 pub loop-i-holds : need.loop-i-holds
@@ -31,4 +32,4 @@ returns g c =
     let enough : min (length a) (length b) ≤ c .loop-i .i = omega arith in
     let all = added-all (element .sum) a b (c .loop-i .i) enough in
     let places : c .loop-i .a ≡ added (element .sum) a b = c .loop-i .inv ∙ all in
-    record { places = places; back = ap (λ xs. added (element .sum) xs b) places ∙ added-back (element .sum) (element .zero) laws a b }
+    record { places = places; equal = λ e. places ∙ added-is-sum (element .sum) a b e; back = ap (λ xs. added (element .sum) xs b) places ∙ added-back (element .sum) (element .zero) laws a b }

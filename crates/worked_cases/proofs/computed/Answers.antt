@@ -1,9 +1,10 @@
 use mathlib.Core.Path.{refl}
+use Rattle.std.specs.shelf.Lists.{All}
 use Rattle.rules.specs.Draws.{step, within, draw, drawn, draws}
-use Rattle.worked_cases.specs.Table.{table, All-hold}
+use Rattle.worked_cases.specs.Table.{table, Holds}
 use Rattle.worked_cases.proofs.computed.Needs as need
 
-all-hold : All-hold table
+all-hold : All Holds table
 unfolding step within draw drawn draws
 all-hold = (
   refl,
@@ -20,8 +21,8 @@ all-hold = (
             (
               refl,
               (
-                (refl, refl, (refl, refl, (refl, refl, (refl, refl, (refl, refl, refl))))),
-                ((refl, refl, (refl, refl, (refl, refl, refl))), tt),
+                (refl, refl, refl, (refl, refl, refl, (refl, refl, refl, (refl, refl, refl, (refl, refl, refl, refl))))),
+                ((refl, refl, refl, (refl, refl, refl, (refl, refl, refl, refl))), tt),
               ),
             ),
           ),

@@ -3,13 +3,13 @@ use lib.ListN.{length, take}
 use borrow.Author.Needs.{needs}
 use Rattle.std.specs.Of.Vec.{vec-items}
 use Rattle.std.proofs.shelf.Lists.{take-all}
-use Rattle.pitch.specs.Block.{headOf}
-use Rattle.pitch.proofs.Blocks.{packed, packed-all, parsed-block}
+use Rattle.pitch.specs.Block.{headOf, fourOf}
+use Rattle.pitch.proofs.Blocks.{Fitting, joined-next, packed-all, parsed-block}
 use Rattle.pitch.proofs.pack.pack.Needs as need
 
 pub loop-e-again : need.loop-e-again
 loop-e-again c =
-    packed (headOf (c .args .table .now .axis) (c .args .table .now .screw) (c .len-count .result)) (vec-items (c .loop-e .out)) (vec-items (c .extend-from-slice .last .self)) (c .four .result) (vec-items (c .args .table .now .entries)) (c .deref-e-items .result .now) (c .loop-e .e-index) _ (c .deref-e-items .ensures .value) (c .loop-e-test .taken) (c .four .ensures .bytes) (c .in-Continue-extend-from-slice .ensures tt .items) (c .four .ensures .back) (c .loop-e .inv)
+    joined-next fourOf Fitting (headOf (c .args .table .now .axis) (c .args .table .now .screw) (c .len-count .result)) (vec-items (c .loop-e .out)) (vec-items (c .extend-from-slice .last .self)) (c .four .result) (vec-items (c .args .table .now .entries)) (c .deref-e-items .result .now) (c .loop-e .e-index) _ (c .deref-e-items .ensures .value) (c .loop-e-test .taken) (c .four .ensures .bytes) (c .in-Continue-extend-from-slice .ensures tt .items) (rw (c .four .ensures .bytes) at (c .four .ensures .back)) (c .loop-e .inv)
 
 pub returns : need.returns
 returns c = let at-end : c .loop-e .e-index ≡ length (vec-items (c .args .table .now .entries)) = search needs in

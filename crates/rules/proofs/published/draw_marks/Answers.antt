@@ -3,8 +3,8 @@ use mathlib.Core.Bool.{false}
 use Prim.Native.Nat.{ℕ, suc, _+_, _-_, _/_, _<_}
 use native.Mathlib.Omega.{arith}
 use Rattle.rules.specs.Draws.{step, within, drawn, draws}
-use Rattle.rules.specs.Bound.{fallen}
-use Rattle.rules.proofs.Falling.{step-below}
+use Rattle.rules.specs.Bound.{rejected}
+use Rattle.rules.proofs.Rejecting.{step-below}
 use Rattle.rules.proofs.Turns.{drawn-in, drawn-out, fewer-left, draws-none, draws-more, tested-in, tested-out}
 use Rattle.rules.proofs.published.draw_marks.Needs as need
 
@@ -26,7 +26,7 @@ out c = tested-out (c .args .m) (c .values .x) _ _ _ (c .step-x .ensures) (c .di
 pub values-less : need.values-less
 values-less c =
     let less = fewer-left (c .args .m) (c .values .x) (omega arith) (omega arith) (c .values .inv .0) (out c) in
-    subst (λ (y : ℕ). fallen 21 (c .args .m) y < fallen 21 (c .args .m) (c .values .x)) (sym (c .step-x .ensures)) less
+    subst (λ (y : ℕ). rejected 21 (c .args .m) y < rejected 21 (c .args .m) (c .values .x)) (sym (c .step-x .ensures)) less
 
 pub values-again : need.values-again
 values-again c =

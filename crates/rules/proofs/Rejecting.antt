@@ -4,43 +4,44 @@
 -- Twice the second is x - (x mod 2) + 2^23 * b, so 2^23 * b and (x mod 2) - 1 agree mod m + 1. Since neither 2^23 nor 2^23 + 1 is a multiple of
 -- m + 1, b is 0 and x is odd. So bit 5 of x is set too: x is above 32, and the value after it is half of it. From below 2^24 on, x can be halved
 -- so 19 times.
-use mathlib.Core.Path.{_≡_, refl, sym, ap, subst, _∙_}
-use mathlib.Core.Bool.{Bool, true, false, cond}
+use mathlib.Core.Path.{_≡_, refl, sym, ap, _∙_}
+use mathlib.Core.Bool.{Bool, true, false, not, cond, _&&_, _||_}
 use mathlib.Core.List.{List, [], _∷_}
-use mathlib.Core.Logic.{_⊎_, inl, inr, ⊎-elim}
+use mathlib.Core.Logic.{_⊎_, ⊎-elim}
 use Prim.Native.Nat.{ℕ, zero, suc, _+_, _*_, _/_, _%_, _^_, _<_, _≤_}
 use native.Mathlib.Omega.{arith}
 use native.Mathlib.Nat.{div-add-mod, add-mul-mod-self-left, mul-left-comm}
-use lib.Bits.{bitXor, xor-lt}
+use lib.Bits.{bitXor}
 use lib.Dec.{eqb, ltb}
 use Rattle.std.proofs.shelf.Bits.{mod-below}
-use Rattle.std.proofs.shelf.Tests.{cases-bool, or-cases, eqb-true, eq-eqb, ltb-false, ltb-true, lt-ltb, cond-true, cond-false, both-ways}
+use Rattle.std.proofs.shelf.Tests.{cases-bool, or-cases, and-parts, eqb-true, eq-eqb, ltb-false, ltb-true, lt-ltb, cond-true, cond-false, both-ways}
 use Rattle.rules.specs.Draws.{bit, step, oneOf, powers, width, within}
-use Rattle.rules.specs.Bound.{fallen}
+use Rattle.rules.specs.Bound.{rejected}
+use Rattle.rules.proofs.Steps.{fed, fed-below}
 
 -- ## Two values in a row that fall out
-
-abbrev Each : (ℕ → Type 0) → List ℕ → Type 0
-Each P [] = Unit {0}
-Each P (p ∷ ps) = P p × Each P ps
-
-at-one : (P : ℕ → Type 0) (m : ℕ) (ps : List ℕ) → oneOf m ps ≡ true → Each P ps → P m
-at-one P m [] t each = absurd (both-ways false refl t)
-at-one P m (p ∷ ps) t each =
-    ⊎-elim (λ e. subst P (sym (eqb-true m p e)) (each .0)) (λ e. at-one P m ps e (each .1)) (or-cases (eqb m p) (oneOf m ps) t)
 
 -- whether m + l and 2^23 * b agree mod m + 1
 abbrev agree : ℕ → ℕ → ℕ → Bool
 agree m l b = eqb ((m + l) % (m + 1)) (8388608 * b % (m + 1))
 
--- they do at no power from 4 on, but for an odd value that is not fed
-abbrev Apart : ℕ → Type 0
-Apart m = (ltb m 4 ≡ true) ⊎ ((agree m 0 0 ≡ false) × (agree m 0 1 ≡ false) × (agree m 1 1 ≡ false))
+-- whether they do at no l and b, but for an odd value that is not fed
+abbrev apart : ℕ → Bool
+apart m = ltb m 4 || (not (agree m 0 0) && (not (agree m 0 1) && not (agree m 1 1)))
 
-apart : (m : ℕ) → oneOf m powers ≡ true → Apart m
-apart m t =
-    at-one Apart m powers t
-    (inl refl, (inl refl, (inr (refl, refl, refl), (inr (refl, refl, refl), (inr (refl, refl, refl), (inr (refl, refl, refl), (inr (refl, refl, refl), (inr (refl, refl, refl), (inr (refl, refl, refl), tt)))))))))
+abbrev each : (ℕ → Bool) → List ℕ → Bool
+each test [] = true
+each test (p ∷ ps) = test p && each test ps
+
+at-one : (test : ℕ → Bool) (m : ℕ) (ps : List ℕ) → oneOf m ps ≡ true → each test ps ≡ true → test m ≡ true
+at-one test m [] t all = absurd (both-ways false refl t)
+at-one test m (p ∷ ps) t all =
+    let parts = and-parts (test p) (each test ps) all in
+    ⊎-elim (λ e. ap test (eqb-true m p e) ∙ parts .0) (λ e. at-one test m ps e (parts .1)) (or-cases (eqb m p) (oneOf m ps) t)
+
+-- computed over the list of powers
+powers-apart : (m : ℕ) → oneOf m powers ≡ true → apart m ≡ true
+powers-apart m t = at-one apart m powers t refl
 
 -- x leaves l at halving and m at dividing by m + 1, and so does the next, x / 2 + 2^22 * b: then m + l and 2^23 * b agree
 agreeing : (m x b : ℕ) → x % (m + 1) ≡ m → (x / 2 + 4194304 * b) % (m + 1) ≡ m → agree m (x % 2) b ≡ true
@@ -54,15 +55,32 @@ agreeing m x b h k =
     let both : m + x % 2 + (m + 1) * (2 * p) ≡ 8388608 * b + (m + 1) * q = omega arith in
     eq-eqb _ _ (sym (add-mul-mod-self-left (m + x % 2) (m + 1) (2 * p)) ∙ ap (λ n. n % (m + 1)) both ∙ add-mul-mod-self-left (8388608 * b) (m + 1) q)
 
-odd-not-fed : (m l b : ℕ) → 4 ≤ m → Apart m → l < 2 → b < 2 → agree m l b ≡ true → (b ≡ 0) × (l ≡ 1)
-odd-not-fed m l b h4 (inl small) hl hb t = absurd (omega (arith, ltb-true m 4 small))
-odd-not-fed m zero zero h4 (inr far) hl hb t = absurd (both-ways (agree m 0 0) (far .0) t)
-odd-not-fed m zero (suc zero) h4 (inr far) hl hb t = absurd (both-ways (agree m 0 1) (far .1) t)
-odd-not-fed m (suc zero) zero h4 (inr far) hl hb t = (refl, refl)
-odd-not-fed m (suc zero) (suc zero) h4 (inr far) hl hb t = absurd (both-ways (agree m 1 1) (far .2) t)
-odd-not-fed m zero (suc (suc b)) h4 (inr far) hl hb t = absurd (omega arith)
-odd-not-fed m (suc zero) (suc (suc b)) h4 (inr far) hl hb t = absurd (omega arith)
-odd-not-fed m (suc (suc l)) b h4 (inr far) hl hb t = absurd (omega arith)
+-- two tests that cannot both pass
+not-both : (b : Bool) → not b ≡ true → b ≡ true → ⊥
+not-both b h t = both-ways b (not-true b h) t
+  where
+    not-true : (c : Bool) → not c ≡ true → c ≡ false
+    not-true true e = sym e
+    not-true false e = refl
+
+odd-not-fed : (m l b : ℕ) → 4 ≤ m → apart m ≡ true → l < 2 → b < 2 → agree m l b ≡ true → (b ≡ 0) × (l ≡ 1)
+odd-not-fed m l b h4 all hl hb t =
+    ⊎-elim
+    (λ small. absurd (omega (arith, ltb-true m 4 small)))
+    (λ far.
+    let one = and-parts (not (agree m 0 0)) (not (agree m 0 1) && not (agree m 1 1)) far in
+    let two = and-parts (not (agree m 0 1)) (not (agree m 1 1)) (one .1) in
+    cases l b hl hb t (one .0) (two .0) (two .1))
+    (or-cases (ltb m 4) _ all)
+  where
+    cases : (l b : ℕ) → l < 2 → b < 2 → agree m l b ≡ true → not (agree m 0 0) ≡ true → not (agree m 0 1) ≡ true → not (agree m 1 1) ≡ true → (b ≡ 0) × (l ≡ 1)
+    cases zero zero hl hb t x y z = absurd (not-both (agree m 0 0) x t)
+    cases zero (suc zero) hl hb t x y z = absurd (not-both (agree m 0 1) y t)
+    cases (suc zero) zero hl hb t x y z = (refl, refl)
+    cases (suc zero) (suc zero) hl hb t x y z = absurd (not-both (agree m 1 1) z t)
+    cases zero (suc (suc b)) hl hb t x y z = absurd (omega arith)
+    cases (suc zero) (suc (suc b)) hl hb t x y z = absurd (omega arith)
+    cases (suc (suc l)) b hl hb t x y z = absurd (omega arith)
 
 same-bits : (a b : ℕ) → a < 2 → b < 2 → bitXor a b ≡ 0 → a ≡ b
 same-bits zero zero ha hb e = refl
@@ -71,13 +89,6 @@ same-bits (suc zero) zero ha hb e = e
 same-bits (suc zero) (suc zero) ha hb e = refl
 same-bits (suc zero) (suc (suc b)) ha hb e = absurd (omega arith)
 same-bits (suc (suc a)) b ha hb e = absurd (omega arith)
-
-fed : ℕ → ℕ
-fed x = bitXor (bit 0 x) (bit 5 x)
-
-fed-below : (x : ℕ) → fed x < 2
-unfolding fed
-fed-below x = xor-lt 1 (bit 0 x) (bit 5 x) (omega arith) (omega arith)
 
 step-is : (x : ℕ) → step x ≡ x / 2 + 4194304 * fed x
 unfolding step fed
@@ -104,7 +115,7 @@ above x z o = let five : bit 0 x ≡ bit 5 x = same-bits (bit 0 x) (bit 5 x) (om
 halves : (m x : ℕ) → oneOf m powers ≡ true → 4 ≤ m → within m x ≡ false → within m (step x) ≡ false → (step x ≡ x / 2) × (33 ≤ x)
 halves m x t h4 bad next =
     let e : (x / 2 + 4194304 * fed x) % (m + 1) ≡ m = ap (λ y. y % (m + 1)) (sym (step-is x)) ∙ out m (step x) t next in
-    let s : (fed x ≡ 0) × (x % 2 ≡ 1) = odd-not-fed m (x % 2) (fed x) h4 (apart m t) (omega arith) (fed-below x) (agreeing m x (fed x) (out m x t bad) e) in
+    let s : (fed x ≡ 0) × (x % 2 ≡ 1) = odd-not-fed m (x % 2) (fed x) h4 (powers-apart m t) (omega arith) (fed-below x) (agreeing m x (fed x) (out m x t bad) e) in
     (omega (arith, step-is x, s .0), above x (s .0) (s .1))
 
 -- ## How many fall out
@@ -114,30 +125,30 @@ abbrev doubled : ℕ → ℕ
 doubled zero = 32
 doubled (suc j) = 2 * doubled j
 
-pub fallen-in : (most m x : ℕ) → within m (step x) ≡ true → fallen (suc most) m x ≡ 0
-unfolding fallen
-fallen-in most m x t = cond-true (within m (step x)) 0 (suc (fallen most m (step x))) t
+pub rejected-in : (most m x : ℕ) → within m (step x) ≡ true → rejected (suc most) m x ≡ 0
+unfolding rejected
+rejected-in most m x t = cond-true (within m (step x)) 0 (suc (rejected most m (step x))) t
 
-pub fallen-out : (most m x : ℕ) → within m (step x) ≡ false → fallen (suc most) m x ≡ suc (fallen most m (step x))
-unfolding fallen
-fallen-out most m x t = cond-false (within m (step x)) 0 (suc (fallen most m (step x))) t
+pub rejected-out : (most m x : ℕ) → within m (step x) ≡ false → rejected (suc most) m x ≡ suc (rejected most m (step x))
+unfolding rejected
+rejected-out most m x t = cond-false (within m (step x)) 0 (suc (rejected most m (step x))) t
 
-pub fallen-none : (m x : ℕ) → fallen 0 m x ≡ 0
-unfolding fallen
-fallen-none m x = refl
+pub rejected-none : (m x : ℕ) → rejected 0 m x ≡ 0
+unfolding rejected
+rejected-none m x = refl
 
 -- after a value that fell out and is below 32 * 2^j
-run : (most j m x : ℕ) → oneOf m powers ≡ true → 4 ≤ m → x < doubled j → within m x ≡ false → fallen most m x ≤ j
-run zero j m x t h4 below bad = omega (arith, fallen-none m x)
+run : (most j m x : ℕ) → oneOf m powers ≡ true → 4 ≤ m → x < doubled j → within m x ≡ false → rejected most m x ≤ j
+run zero j m x t h4 below bad = omega (arith, rejected-none m x)
 run (suc most) zero m x t h4 below bad =
     ⊎-elim
-    (λ e. omega (arith, fallen-in most m x e))
+    (λ e. omega (arith, rejected-in most m x e))
     (λ e. absurd (omega (arith, halves m x t h4 bad e .1)))
     (cases-bool (within m (step x)))
 run (suc most) (suc j) m x t h4 below bad =
     ⊎-elim
-    (λ e. omega (arith, fallen-in most m x e))
-    (λ e. omega (arith, fallen-out most m x e, run most j m (step x) t h4 (omega (arith, halves m x t h4 bad e .0)) e))
+    (λ e. omega (arith, rejected-in most m x e))
+    (λ e. omega (arith, rejected-out most m x e, run most j m (step x) t h4 (omega (arith, halves m x t h4 bad e .0)) e))
     (cases-bool (within m (step x)))
 
 -- where m is no power of two, no value falls out
@@ -148,20 +159,20 @@ all-in m x t h4 =
     let low : x % width m < width m = mod-below x (width m) (omega arith) in
     lt-ltb (x % width m) m (omega arith)
 
-pub few : (most m x : ℕ) → 4 ≤ m → m ≤ 256 → x < 2 ^ 24 → fallen most m x ≤ 20
-few zero m x h4 h below = omega (arith, fallen-none m x)
+pub few : (most m x : ℕ) → 4 ≤ m → m ≤ 256 → x < 2 ^ 24 → rejected most m x ≤ 20
+few zero m x h4 h below = omega (arith, rejected-none m x)
 few (suc most) m x h4 h below =
     ⊎-elim
-    (λ e. omega (arith, fallen-in most m x e))
+    (λ e. omega (arith, rejected-in most m x e))
     (λ e.
     ⊎-elim
-    (λ t. omega (arith, fallen-out most m x e, run most 19 m (step x) t h4 (step-below x below) e))
+    (λ t. omega (arith, rejected-out most m x e, run most 19 m (step x) t h4 (step-below x below) e))
     (λ t. absurd (both-ways (within m (step x)) e (all-in m (step x) t h4)))
     (cases-bool (oneOf m powers)))
     (cases-bool (within m (step x)))
 
 -- after a value that fell out at most 19 more do
-pub few-after : (most m x : ℕ) → 4 ≤ m → m ≤ 256 → x < 2 ^ 24 → within m (step x) ≡ false → fallen most m (step x) ≤ 19
+pub few-after : (most m x : ℕ) → 4 ≤ m → m ≤ 256 → x < 2 ^ 24 → within m (step x) ≡ false → rejected most m (step x) ≤ 19
 few-after most m x h4 h below e =
-    let one-more : fallen (suc most) m x ≤ 20 = few (suc most) m x h4 h below in
-    omega (arith, fallen-out most m x e)
+    let one-more : rejected (suc most) m x ≤ 20 = few (suc most) m x h4 h below in
+    omega (arith, rejected-out most m x e)
