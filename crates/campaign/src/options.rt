@@ -14,7 +14,7 @@ pub struct Options {
     pub spares: u16,
 }
 
-// 48 bytes and a message's first three are what the slowest data rate carries.
+// With a message's three bytes of head this stays near 50 bytes; what a radio carries depends on region and data rate.
 const SIZE: u8 = 48;
 
 const SPARES: u16 = 8;

@@ -1,6 +1,6 @@
 -- The theorems on coding and elimination. Assumes nothing.
 use mathlib.Core.Path.{sym, _∙_}
-use Rattle.coding.specs.Theorems.{Linear-in-row, Linear-in-block, Reducing-keeps, Always-a-block, Two-where-empty, Lines-stand-for, Missing-least, Settled-block, Contradiction-exact}
+use Rattle.coding.specs.Theorems.{Linear-in-row, Linear-in-block, Reducing-keeps, Always-a-block, Two-where-empty, Lines-stand-for, Missing-least, Settled-block, Contradiction-exact, Theorems}
 use Rattle.coding.proofs.Spaces.{linear, linear-block}
 use Rattle.coding.proofs.ByteSpaces.{byte-space, one, one-bytes, one-apart}
 use Rattle.coding.proofs.Placing.{same-left}
@@ -40,3 +40,17 @@ settled-block m s accepted ls r e = the-block (kept r) e
 pub contradiction-exact : Contradiction-exact
 contradiction-exact m s accepted ls r a p =
     (λ x. refused (kept r) a p (x .0) (x .1) (x .2), λ n. refused-only (kept r) a p n)
+
+pub theorems : Theorems
+theorems =
+    record {
+      rows = linear-in-row;
+      blocks = linear-in-block;
+      reducing = reducing-keeps;
+      some = always-a-block;
+      two = two-where-empty;
+      lines = lines-stand-for;
+      missing = missing-least;
+      settled = settled-block;
+      contradicts = contradiction-exact;
+    }

@@ -85,3 +85,16 @@ Contradiction-exact =
     (m s : ℕ) (accepted : List (Equation (List ℕ))) (ls : List (Slot (List ℕ))) → Reached m s accepted ls
     → (a : Equation (List ℕ)) → Proper m s a
     → ((q : List ℕ) × (arrive ls a ≡ dependent q) × (q ≢ zeros s)) ↔ (SomeBlock m s (a ∷ accepted) → ⊥)
+
+-- ---- all of them
+
+pub record Theorems : Type 0 where
+  pub rows : Linear-in-row
+  pub blocks : Linear-in-block
+  pub reducing : Reducing-keeps
+  pub some : Always-a-block
+  pub two : Two-where-empty
+  pub lines : Lines-stand-for
+  pub missing : Missing-least
+  pub settled : Settled-block
+  pub contradicts : Contradiction-exact

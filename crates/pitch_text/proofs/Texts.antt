@@ -33,16 +33,23 @@ lines-cut [] h = absurd (omega arith)
 lines-cut (x ∷ xs) h = lines-more x xs
 
 -- a fault in the lines after the first n has a later line
-not-after : (k n : ℕ) (s : Sofar) (ls : List (List ℕ)) → 1 ≤ k → k ≤ n → NotAfter k (readLines n s ls)
-not-after k n start [] one le = (one, le)
-not-after k n (hasAxis a) [] one le = (one, le)
-not-after k n (hasScrew s) [] one le = (one, le)
-not-after k n (ready p) [] one le = one
-not-after k n s (l ∷ ls) one le =
+not-after : (k n : ℕ) (s : Sofar) (ls : List (List ℕ)) → k ≤ n → NotAfter k (readLines n s ls)
+not-after k n start [] le = le
+not-after k n (hasAxis a) [] le = le
+not-after k n (hasScrew s) [] le = le
+not-after k n (ready p) [] le = tt
+not-after k n s (l ∷ ls) le =
     elim (lineTaken (statementIn l) s) as (λ o. NotAfter k (goOn (n + 1) o (λ t. readLines (n + 1) t ls))) [
-      | Err w ↦ (one, omega arith)
-      | Ok t ↦ not-after k (n + 1) t ls one (omega arith)
+      | Err w ↦ omega arith
+      | Ok t ↦ not-after k (n + 1) t ls (omega arith)
     ]
+
+-- one line less is left
+pub one-line : (n count : ℕ) (rest more : List ℕ) → 0 < length rest → more ≡ after 10 rest → n + length (linesOf rest) ≡ count → n + 1 + length (linesOf more) ≡ count
+one-line n count rest more some others all =
+    let first : length (linesOf rest) ≡ length (before 10 rest ∷ linesOf (after 10 rest)) = ap length (lines-cut rest some) in
+    let same : length (linesOf more) ≡ length (linesOf (after 10 rest)) = ap (λ xs. length (linesOf xs)) others in
+    omega arith
 
 module _ (n : ℕ) (s : Sofar) (rest one more : List ℕ) (want : Result Parts TextFault) (some : 0 < length rest) (first : one ≡ before 10 rest) (others : more ≡ after 10 rest) (inv : readLines n s (linesOf rest) ≡ want) where
   unfolded : goOn (n + 1) (lineTaken (statementIn one) s) (λ t. readLines (n + 1) t (linesOf more)) ≡ want
@@ -54,12 +61,15 @@ module _ (n : ℕ) (s : Sofar) (rest one more : List ℕ) (want : Result Parts T
 
   -- a line was refused
   pub refused : (w : What) → (lineTaken (statementIn one) s ≡ Err w) ⊎ ((w ≡ Memory) × (isOk (lineTaken (statementIn one) s) ≡ true))
-      → (want ≡ Err (record { line = n + 1; what = w })) ⊎ ((w ≡ Memory) × NotAfter (n + 1) want)
-  refused w (inl e) = inl (sym (rw e at unfolded))
-  refused w (inr e) = inr (e .0, no-fault (lineTaken (statementIn one) s) refl)
+      → (count : ℕ) → n + length (linesOf rest) ≡ count
+      → (want ≡ Err (record { line = n + 1; what = w })) ⊎ ((w ≡ Memory) × (1 ≤ n + 1) × (n + 1 ≤ count) × NotAfter (n + 1) want)
+  refused w (inl e) count all = inl (sym (rw e at unfolded))
+  refused w (inr e) count all =
+      let within : n + 1 + length (linesOf more) ≡ count = one-line n count rest more some others all in
+      inr (e .0, omega arith, omega arith, no-fault (lineTaken (statementIn one) s) refl)
     where
       no-fault : (o : Result Sofar What) → lineTaken (statementIn one) s ≡ o → NotAfter (n + 1) want
-      no-fault (Ok t) is = subst (NotAfter (n + 1)) (read-line t is) (not-after (n + 1) (n + 1) t (linesOf more) (omega arith) (omega arith))
+      no-fault (Ok t) is = subst (NotAfter (n + 1)) (read-line t is) (not-after (n + 1) (n + 1) t (linesOf more) (omega arith))
       no-fault (Err v) is = let z : true ≡ false = sym (e .1) ∙ ap isOk is in absurd (both-ways false refl (sym z))
 
 -- no line is left

@@ -138,15 +138,15 @@ readLines n s (l ∷ ls) = goOn (n + 1) (lineTaken (statementIn l) s) (λ t. rea
 abbrev pub readText : List ℕ → Result Parts TextFault
 readText text = readLines 0 start (linesOf text)
 
--- line n is one of the text's, and not after the line of its first fault
+-- line n is not after the line of the first fault
 abbrev pub NotAfter : ℕ → Result Parts TextFault → Type 0
-NotAfter n (Ok p) = 1 ≤ n
-NotAfter n (Err f) = (1 ≤ n) × (n ≤ f .line)
+NotAfter n (Ok p) = Unit {0}
+NotAfter n (Err f) = n ≤ f .line
 
--- the answer is what was wanted, unless there is not enough memory for a line before the first fault
-abbrev pub Reads : Result Table TextFault → Result Parts TextFault → Type 0
-Reads (Ok t) want = want ≡ Ok (partsOf t)
-Reads (Err f) want = (want ≡ Err f) ⊎ ((f .what ≡ Memory) × NotAfter (f .line) want)
+-- of so many lines: the answer is what was wanted, unless there is not enough memory at one of the lines, not after the first fault
+abbrev pub Reads : ℕ → Result Table TextFault → Result Parts TextFault → Type 0
+Reads count (Ok t) want = want ≡ Ok (partsOf t)
+Reads count (Err f) want = (want ≡ Err f) ⊎ ((f .what ≡ Memory) × (1 ≤ f .line) × (f .line ≤ count) × NotAfter (f .line) want)
 
 abbrev pub axisName : Axis → List ℕ
 axisName X = codes "X"

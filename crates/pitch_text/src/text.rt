@@ -1,6 +1,9 @@
 // Pitch tables as text: `axis X`, `screw 17`, then a line for each millimetre with the forward and the return error in micrometres.
 ghost use mathlib.Core.Path.{_≡_};
+ghost use Prim.Native.Nat.{ℕ};
+ghost use lib.ListN.{length};
 ghost use Rattle.std.specs.declared.option.Option.the-variants.{Some};
+ghost use Rattle.pitch_text.specs.Words.{linesOf};
 ghost use Rattle.pitch_text.specs.Text.{messageOf, faultText, pairStatement, axisStatement, statementIn, sofarOf, named, numbered, measured, lineTaken, Takes, atEnd, readText, Reads};
 use crate::words::cut;
 use crate::words::is_same;
@@ -192,7 +195,7 @@ impl Reading {
 
 // The table, once the text has ended after `line` lines.
 fn table_of(reading: Reading, line: usize) -> Result<Table, TextFault>
-    ensures { λ r. ⌜ Reads r (atEnd line (sofarOf reading)) ⌝ }
+    ensures { λ r. ⌜ ((count : ℕ) → Reads count r (atEnd line (sofarOf reading))) ⌝ }
 {
     let Reading::Ready(table) = reading else {
         return Err(TextFault {
@@ -205,7 +208,7 @@ fn table_of(reading: Reading, line: usize) -> Result<Table, TextFault>
 
 /// Reads a table from text, or says the first fault and its line. The text that `show` writes of a table is read as that table.
 pub fn read_table(heap: Global, text: &[u8]) -> Result<Table, TextFault>
-    ensures { λ r. ⌜ Reads r (readText (now (text .entry))) ⌝ }
+    ensures { λ r. ⌜ Reads (length (linesOf (now (text .entry)))) r (readText (now (text .entry))) ⌝ }
 {
     let mut reading = Reading::Start;
     let mut line = 0;

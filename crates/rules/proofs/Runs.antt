@@ -18,7 +18,7 @@ reached-below (suc count) m x h = reached-below count m (drawn m x) (drawn-below
 pub register-small : Register-small
 register-small m n count above last = reached-below count m (seed m n) (omega arith)
 
-pub few-rejected : FewRejected
+pub few-rejected : FewRejected 20
 few-rejected m n count most h4 h above last = few most m (reached count m (seed m n)) h4 h (register-small m n count above last)
 
 all-rejected : (most m x : ℕ) → ((j : ℕ) → 1 ≤ j → j ≤ most → m ≤ after j x % width m) → rejected most m x ≡ most

@@ -16,9 +16,9 @@ unfoldable pub reached : ℕ → ℕ → ℕ → ℕ
 reached zero m x = x
 reached (suc count) m x = reached count m (drawn m x)
 
--- in each draw for each fragment number at most 20 values fall out in a row, however many are looked at
-abbrev pub FewRejected : Type 0
-FewRejected = (m n count most : ℕ) → 4 ≤ m → m ≤ mostFragments → m < n → n ≤ lastNumber → rejected most m (reached count m (seed m n)) ≤ 20
+-- in each draw for each fragment number at most k values fall out in a row, however many are looked at
+abbrev pub FewRejected : ℕ → Type 0
+FewRejected k = (m n count most : ℕ) → 4 ≤ m → m ≤ mostFragments → m < n → n ≤ lastNumber → rejected most m (reached count m (seed m n)) ≤ k
 
 -- and the register stays below 2^24, wherever a draw for a fragment number begins
 abbrev pub Register-small : Type 0
@@ -38,3 +38,10 @@ abbrev pub DrawsTheFirst : ℕ → Type 0
 DrawsTheFirst k =
     (m x : ℕ) → 4 ≤ m → m ≤ mostFragments → x < 2 ^ 24
     → (j : ℕ) × (j ≤ k) × (drawn m x ≡ after (suc j) x) × (after (suc j) x % width m < m) × ((i : ℕ) → i < j → m ≤ after (suc i) x % width m)
+
+-- at most k values fall out in a row, and a draw takes the first that does not
+pub record Bounded (k : ℕ) : Type 0 where
+  pub few : FewRejected k
+  pub register : Register-small
+  pub run : NoLongRun k
+  pub first : DrawsTheFirst k

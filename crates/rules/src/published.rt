@@ -5,7 +5,7 @@ ghost use lib.ListN.{length};
 ghost use Rattle.coding.specs.Blocks.{mostFragments};
 ghost use Rattle.rules.specs.Filling.{lastNumber};
 ghost use Rattle.rules.specs.Draws.{step as stepped, width, draws, seed, publishedServes, publishedRow};
-ghost use Rattle.rules.specs.Bound.{FewRejected, Register-small, NoLongRun, DrawsTheFirst};
+ghost use Rattle.rules.specs.Bound.{Bounded};
 use crate::line_rule::LAST;
 use crate::line_rule::LineRule;
 use crate::line_rule::RowFault;
@@ -64,7 +64,7 @@ fn draw_marks(m: u16, n: u16, marks: &mut [bool])
     }
 }
 
-/// FragAlgo 0, M 4–256: the rows of the generator in the public LoRaWAN code for TS004, LoRaMac-node.
+/// FragAlgo 0, M 4–256: one fragment each for the first M numbers, then rows that a shift register draws.
 #[derive(Clone, Copy)]
 pub struct Published;
 
@@ -96,12 +96,9 @@ pub impl LineRule for Published as PublishedRule {
 }
 
 // The proofs are cited here, so that the public function has no proof file of its own.
-fn bounded() -> u8
+fn proved() -> u8
     ensures answer { λ r. ⌜ r ≡ 20 ⌝ }
-    ensures bound { λ _. ⌜ FewRejected ⌝ }
-    ensures register { λ _. ⌜ Register-small ⌝ }
-    ensures run { λ r. ⌜ NoLongRun r ⌝ }
-    ensures first { λ r. ⌜ DrawsTheFirst r ⌝ }
+    ensures bounded { λ r. ⌜ Bounded r ⌝ }
 {
     20
 }
@@ -109,10 +106,7 @@ fn bounded() -> u8
 /// The bound on how many values fall out in a row in one draw, on which the end of a draw rests. A draw takes the first value that does not.
 pub fn most_rejected() -> u8
     ensures answer { λ r. ⌜ r ≡ 20 ⌝ }
-    ensures bound { λ _. ⌜ FewRejected ⌝ }
-    ensures register { λ _. ⌜ Register-small ⌝ }
-    ensures run { λ r. ⌜ NoLongRun r ⌝ }
-    ensures first { λ r. ⌜ DrawsTheFirst r ⌝ }
+    ensures bounded { λ r. ⌜ Bounded r ⌝ }
 {
-    bounded()
+    proved()
 }
