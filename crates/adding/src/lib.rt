@@ -1,4 +1,6 @@
 // Adding lists place by place, once for every kind of element.
+#![tactic(auto)]
+
 ghost use Rattle.std.specs.Prelude.{◌≡◌, min, false, length, bit_xor};
 ghost use Rattle.adding.specs.Sums.{differ, added, sum as total};
 ghost use Rattle.adding.specs.Laws.{mark_laws, byte_laws};
@@ -75,9 +77,9 @@ impl Element for u8 {
 // Adds the first n places, as many as the shorter list has.
 fn add_front<E: Element>(a: &mut [E], b: &[E], n: usize)
     requires { n ≡ min (length a.old) (length b.now) }
-    ensures places { a.new ≡ added sum a.old b.now }
-    ensures equal { length a.old ≡ length b.now → a.new ≡ total sum a.old b.now }
-    ensures back { added sum a.new b.now ≡ a.old }
+    ensures places { a.new ≡ added E.sum a.old b.now }
+    ensures equal { length a.old ≡ length b.now → a.new ≡ total E.sum a.old b.now }
+    ensures back { added E.sum a.new b.now ≡ a.old }
 {
     for i in 0..n {
         a[i] = a[i].plus(b[i]);
@@ -87,9 +89,9 @@ fn add_front<E: Element>(a: &mut [E], b: &[E], n: usize)
 /// Adds `b` into `a` place by place. Where `b` is shorter the rest of `a` stays; where it is longer its rest does not count.
 /// Lists of one length become their sum. Adding `b` once more would give `a` back.
 pub fn add_into<E: Element>(a: &mut [E], b: &[E])
-    ensures places { a.new ≡ added sum a.old b.now }
-    ensures equal { length a.old ≡ length b.now → a.new ≡ total sum a.old b.now }
-    ensures back { added sum a.new b.now ≡ a.old }
+    ensures places { a.new ≡ added E.sum a.old b.now }
+    ensures equal { length a.old ≡ length b.now → a.new ≡ total E.sum a.old b.now }
+    ensures back { added E.sum a.new b.now ≡ a.old }
 {
     let n = a.len().min(b.len());
     add_front(a, b, n);

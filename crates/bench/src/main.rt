@@ -1,4 +1,6 @@
 // Reads a bench script from standard input, and prints one answer for each command (docs/BENCH.md).
+#![tactic(auto)]
+
 mod answers;
 mod bottom;
 mod commands;

@@ -1,4 +1,6 @@
 // Packs a pitch table into a block, cuts it into fragments, and prints them with spare ones of the published rule.
+#![tactic(auto)]
+
 mod options;
 mod report;
 

@@ -1,4 +1,6 @@
 // Blocks, rows, agreement and elimination as mathematics. Nothing is computed here: a function states theorems in its contract.
+#![tactic(auto)]
+
 ghost use Rattle.std.specs.Prelude.{◌≡◌};
 ghost use Rattle.coding.specs.Theorems.{Theorems};
 

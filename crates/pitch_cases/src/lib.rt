@@ -1,3 +1,5 @@
 // Tests of pitch tables, as blocks and as text.
+#![tactic(auto)]
+
 #[cfg(test)]
 mod tests;

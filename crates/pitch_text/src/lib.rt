@@ -1,4 +1,6 @@
 // Pitch tables as text, as a machinist writes them.
+#![tactic(auto)]
+
 pub mod show;
 pub mod text;
 mod words;

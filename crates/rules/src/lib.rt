@@ -1,4 +1,6 @@
 // Line rules: which row of marks a fragment number has.
+#![tactic(auto)]
+
 pub mod line_rule;
 mod marks;
 pub mod published;

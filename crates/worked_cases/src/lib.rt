@@ -1,4 +1,6 @@
 // Worked cases: proved over the definitions, and rows that others printed, run through the code.
+#![tactic(auto)]
+
 ghost use Rattle.std.specs.Prelude.{◌≡◌, length};
 ghost use Rattle.std.specs.List.{AllByRecursion as All};
 ghost use Rattle.worked_cases.specs.Table.{table, Holds};
