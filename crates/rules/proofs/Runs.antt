@@ -1,15 +1,15 @@
 -- The bound, in the words of the rule. Assumes nothing.
-use Rattle.std.proofs.Common.{◌≡◌, ℕ, zero, suc, ◌-◌, ◌%◌, ◌^◌, ◌<◌, ◌≤◌, false, ap, ◌∙◌, ⊎_elim, arith}
+use Rattle.std.proofs.Common.{◌≡◌, ℕ, zero, suc, ◌%◌, ◌^◌, ◌<◌, ◌≤◌, false, ap, ◌∙◌, ⊎_elim, arith}
 use Rattle.std.proofs.lemmas.Bool.{le-ltb, ltb-true, ltb-false, cases_Bool}
 use Rattle.rules.specs.Draws.{step, width, within, draw, drawn, seed}
 use Rattle.rules.specs.Bound.{RegisterSmall, rejected, reached, after, FewRejected, NoLongRun, DrawsTheFirst}
 use Rattle.rules.specs.Rejecting.{few, rejected_none, rejected_out}
-use Rattle.rules.specs.Turns.{drawn-below, draw_in, draw_out}
+use Rattle.rules.specs.Turns.{drawn_below, draw_in, draw_out}
 
 reached-below : (count m x : ℕ) → x < 2 ^ 24 → reached count m x < 2 ^ 24
 unfolding reached
 reached-below zero m x h = h
-reached-below (suc count) m x h = reached-below count m (drawn m x) (drawn-below m x h)
+reached-below (suc count) m x h = reached-below count m (drawn m x) (drawn_below m x h)
 
 pub register_small : RegisterSmall
 register_small m n count above last = reached-below count m (seed m n) (omega arith)

@@ -6,3 +6,4 @@ pub mod Rows
 pub mod Turns
 pub mod Rejecting
 pub mod Steps
+pub mod RuleLaws

@@ -4,14 +4,14 @@
 -- Twice the second is x - (x mod 2) + 2^23 * b, so 2^23 * b and (x mod 2) - 1 agree mod m + 1. Since neither 2^23 nor 2^23 + 1 is a multiple of
 -- m + 1, b is 0 and x is odd. So bit 5 of x is set too: x is above 32, and the value after it is half of it. From below 2^24 on, x can be halved
 -- so 19 times.
-use Rattle.std.specs.Prelude.{◌≡◌, ℕ, zero, suc, ◌+◌, ◌*◌, ◌/◌, ◌%◌, ◌^◌, ◌<◌, ◌≤◌, Bool, true, false, cond, not, ◌&&◌, ◌||◌, ◌⊎◌, List, [], ◌∷◌, ◌==◌, ◌≢◌, bit_xor, nat_lt, refl}
+use Rattle.std.specs.Prelude.{◌≡◌, ℕ, zero, suc, ◌+◌, ◌*◌, ◌/◌, ◌%◌, ◌^◌, ◌<◌, ◌≤◌, Bool, true, false, cond, not, ◌&&◌, ◌||◌, List, [], ◌∷◌, ◌==◌, ◌≢◌, bit_xor, nat_lt, refl}
 use Rattle.std.proofs.Common.{sym, ap, ◌∙◌, ⊎_elim, arith, mul_left_comm}
 use Rattle.std.proofs.Math.Nat.{div-add-mod, add-mul-mod_self_left}
 use Rattle.std.proofs.lemmas.Nat.{mod_below}
 use Rattle.std.proofs.lemmas.Bool.{cases_Bool, or_cases, and_parts, eqb-true, eq-eqb, ltb-false, ltb-true, lt-ltb, cond-true, cond-false, both_ways}
 use Rattle.rules.specs.Draws.{bit, step, one_of, powers, width, within}
 use Rattle.rules.specs.Bound.{rejected}
-use Rattle.rules.specs.Steps.{fed, fed-below}
+use Rattle.rules.specs.Steps.{fed, fed_below}
 
 -- ## Two values in a row that fall out
 
@@ -88,8 +88,8 @@ step_is : (x : ℕ) → step x ≡ x / 2 + 4194304 * fed x
 unfolding step fed
 step_is x = refl
 
-pub step-below : (x : ℕ) → x < 2 ^ 24 → step x < 2 ^ 24
-step-below x h = omega (arith, step_is x, fed-below x)
+pub step_below : (x : ℕ) → x < 2 ^ 24 → step x < 2 ^ 24
+step_below x h = omega (arith, step_is x, fed_below x)
 
 -- a value of a power of two that falls out
 out : (m x : ℕ) → one_of m powers ≡ true → within m x ≡ false → x % (m + 1) ≡ m
@@ -109,7 +109,7 @@ above x z o = let five : bit 0 x ≡ bit 5 x = same_bits (bit 0 x) (bit 5 x) (om
 halves : (m x : ℕ) → one_of m powers ≡ true → 4 ≤ m → within m x ≡ false → within m (step x) ≡ false → (step x ≡ x / 2) × (33 ≤ x)
 halves m x t h4 bad next =
     let e : (x / 2 + 4194304 * fed x) % (m + 1) ≡ m = ap (λ y. y % (m + 1)) (sym (step_is x)) ∙ out m (step x) t next in
-    let s : (fed x ≡ 0) × (x % 2 ≡ 1) = odd_not_fed m (x % 2) (fed x) h4 (powers-apart m t) (omega arith) (fed-below x) (agreeing m x (fed x) (out m x t bad) e) in
+    let s : (fed x ≡ 0) × (x % 2 ≡ 1) = odd_not_fed m (x % 2) (fed x) h4 (powers-apart m t) (omega arith) (fed_below x) (agreeing m x (fed x) (out m x t bad) e) in
     (omega (arith, step_is x, s.0), above x s.0 s.1)
 
 -- ## How many fall out
@@ -160,7 +160,7 @@ few (suc most) m x h4 h below =
     (λ e. omega (arith, rejected_in most m x e))
     (λ e.
     ⊎_elim
-    (λ t. omega (arith, rejected_out most m x e, run most 19 m (step x) t h4 (step-below x below) e))
+    (λ t. omega (arith, rejected_out most m x e, run most 19 m (step x) t h4 (step_below x below) e))
     (λ t. absurd (both_ways (within m (step x)) e (all_in m (step x) t h4)))
     (cases_Bool (one_of m powers)))
     (cases_Bool (within m (step x)))

@@ -19,18 +19,18 @@ bit_5 x = and_mask (x / 32) 1
 unfoldable pub fed : ℕ → ℕ
 fed x = bit_xor (bit 0 x) (bit 5 x)
 
-pub fed-below : (x : ℕ) → fed x < 2
+pub fed_below : (x : ℕ) → fed x < 2
 unfolding fed
-fed-below x = xor_lt 1 (bit 0 x) (bit 5 x) (omega arith) (omega arith)
+fed_below x = xor_lt 1 (bit 0 x) (bit 5 x) (omega arith) (omega arith)
 
 -- the code's way to get it
-pub fed-code : (x : ℕ) → bit_xor (bit_and x 1) (bit_and (x / 32) 1) ≡ fed x
+pub fed_code : (x : ℕ) → bit_xor (bit_and x 1) (bit_and (x / 32) 1) ≡ fed x
 unfolding fed
-fed-code x = ap (λ n. bit_xor n (bit_and (x / 32) 1)) (bit_0 x) ∙ ap (bit_xor (bit 0 x)) (bit_5 x)
+fed_code x = ap (λ n. bit_xor n (bit_and (x / 32) 1)) (bit_0 x) ∙ ap (bit_xor (bit 0 x)) (bit_5 x)
 
-pub step-code : (x : ℕ) → x / 2 + (bit_xor (bit_and x 1) (bit_and (x / 32) 1) * 4194304) % 4294967296 ≡ step x
+pub step_code : (x : ℕ) → x / 2 + (bit_xor (bit_and x 1) (bit_and (x / 32) 1) * 4194304) % 4294967296 ≡ step x
 unfolding step fed
-step-code x = omega (arith, fed-code x, fed-below x)
+step_code x = omega (arith, fed_code x, fed_below x)
 
 -- ## The test for a power of two, at each M
 

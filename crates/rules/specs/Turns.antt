@@ -1,5 +1,5 @@
 -- What a turn of the loops does. Assumes nothing.
-use Rattle.std.specs.Prelude.{◌≡◌, ℕ, zero, suc, ◌+◌, ◌-◌, ◌/◌, ◌%◌, ◌^◌, ◌<◌, ◌≤◌, Bool, true, false, List, ◌++◌, length, replicate, nat_le, slice_set, refl}
+use Rattle.std.specs.Prelude.{◌≡◌, ℕ, zero, suc, ◌-◌, ◌/◌, ◌%◌, ◌^◌, ◌<◌, ◌≤◌, Bool, true, false, List, ◌++◌, length, replicate, nat_le, slice_set, refl}
 use Rattle.std.proofs.Common.{sym, ap, ◌∙◌, ⊎_elim, arith}
 use Rattle.std.proofs.lemmas.List.{length-set, length-replicate, set-append_left}
 use Rattle.std.proofs.lemmas.Bool.{cases_Bool, cond-true, cond-false, cond_both, ltb-true, lt-ltb, le-ltb}
@@ -7,7 +7,7 @@ use Rattle.rules.specs.Draws.{step, width, within, draw, drawn, draws, seed, pub
 use Rattle.rules.specs.Bound.{rejected}
 use Rattle.rules.specs.Filling.{single}
 use Rattle.rules.specs.Rows.{length-single}
-use Rattle.rules.specs.Rejecting.{few, few_after, step-below, rejected_in, rejected_out}
+use Rattle.rules.specs.Rejecting.{few, few_after, step_below, rejected_in, rejected_out}
 
 pub draw_in : (most m x : ℕ) → within m (step x) ≡ true → draw (suc most) m x ≡ step x
 unfolding draw
@@ -34,26 +34,26 @@ rejected_enough (suc most) m x h =
     (λ e. rejected_out most m x e ∙ ap suc (rejected_enough most m (step x) (omega (arith, rejected_out most m x e))) ∙ sym (rejected_out (suc most) m x e))
     (cases_Bool (within m (step x)))
 
-draw-within : (most m x : ℕ) → rejected most m x < most → within m (draw most m x) ≡ true
-draw-within zero m x h = absurd (omega arith)
-draw-within (suc most) m x h =
+draw_within : (most m x : ℕ) → rejected most m x < most → within m (draw most m x) ≡ true
+draw_within zero m x h = absurd (omega arith)
+draw_within (suc most) m x h =
     ⊎_elim
     (λ e. ap (within m) (draw_in most m x e) ∙ e)
-    (λ e. ap (within m) (draw_out most m x e) ∙ draw-within most m (step x) (omega (arith, rejected_out most m x e)))
+    (λ e. ap (within m) (draw_out most m x e) ∙ draw_within most m (step x) (omega (arith, rejected_out most m x e)))
     (cases_Bool (within m (step x)))
 
-draw-below : (most m x : ℕ) → x < 2 ^ 24 → draw most m x < 2 ^ 24
+draw_below : (most m x : ℕ) → x < 2 ^ 24 → draw most m x < 2 ^ 24
 unfolding draw
-draw-below zero m x h = h
-draw-below (suc most) m x h =
+draw_below zero m x h = h
+draw_below (suc most) m x h =
     ⊎_elim
-    (λ e. omega (arith, draw_in most m x e, step-below x h))
-    (λ e. omega (arith, draw_out most m x e, draw-below most m (step x) (step-below x h)))
+    (λ e. omega (arith, draw_in most m x e, step_below x h))
+    (λ e. omega (arith, draw_out most m x e, draw_below most m (step x) (step_below x h)))
     (cases_Bool (within m (step x)))
 
-pub drawn-below : (m x : ℕ) → x < 2 ^ 24 → drawn m x < 2 ^ 24
+pub drawn_below : (m x : ℕ) → x < 2 ^ 24 → drawn m x < 2 ^ 24
 unfolding drawn
-drawn-below m x h = draw-below 21 m x h
+drawn_below m x h = draw_below 21 m x h
 
 -- ## The loop of a draw
 
@@ -74,9 +74,9 @@ fewer_left m x h4 h below t =
 
 -- ## The loop of the draws
 
-pub drawn-within : (m x : ℕ) → 4 ≤ m → m ≤ 256 → x < 2 ^ 24 → drawn m x % width m < m
+pub drawn_within : (m x : ℕ) → 4 ≤ m → m ≤ 256 → x < 2 ^ 24 → drawn m x % width m < m
 unfolding drawn within
-drawn-within m x h4 h below = ltb-true (drawn m x % width m) m (draw-within 21 m x (omega (arith, few 21 m x h4 h below)))
+drawn_within m x h4 h below = ltb-true (drawn m x % width m) m (draw_within 21 m x (omega (arith, few 21 m x h4 h below)))
 
 pub draws_none : (m x : ℕ) (marks : List Bool) → draws 0 m x marks ≡ marks
 unfolding draws
@@ -96,8 +96,8 @@ pub draws_front : (count m x : ℕ) (marks rest : List Bool) → 4 ≤ m → m �
 unfolding draws
 draws_front zero m x marks rest h4 h below long = refl
 draws_front (suc count) m x marks rest h4 h below long =
-    ap (draws count m (drawn m x)) (set-append_left marks rest (drawn m x % width m) true (omega (arith, drawn-within m x h4 h below)))
-    ∙ draws_front count m (drawn m x) (slice_set marks (drawn m x % width m) true) rest h4 h (drawn-below m x below) (length-set marks (drawn m x % width m) true ∙ long)
+    ap (draws count m (drawn m x)) (set-append_left marks rest (drawn m x % width m) true (omega (arith, drawn_within m x h4 h below)))
+    ∙ draws_front count m (drawn m x) (slice_set marks (drawn m x % width m) true) rest h4 h (drawn_below m x below) (length-set marks (drawn m x % width m) true ∙ long)
 
 pub length_published : (m n : ℕ) → length (published_marks m n) ≡ m
 length_published m n =

@@ -2,11 +2,9 @@
 ghost use Rattle.std.specs.Prelude.{◌≡◌, ◌/◌, ◌^◌, ◌<◌, ◌≤◌, length};
 ghost use Rattle.coding.specs.Blocks.{most_fragments};
 ghost use Rattle.rules.specs.Filling.{last_number};
-ghost use Rattle.rules.specs.Draws.{step as stepped, width, draws, seed, published_serves, published_row, published_marks};
+ghost use Rattle.rules.specs.Draws.{step as stepped, width, draws, seed, published_serves, published_row};
 ghost use Rattle.rules.specs.Bound.{Bounded};
-ghost use Rattle.rules.specs.Rows.{row_if-whole};
-ghost use Rattle.rules.specs.Turns.{length_published};
-ghost use Rattle.std.proofs.Common.{rules};
+ghost use Rattle.rules.specs.RuleLaws.{published_algorithms, published_unserved, published_beyond, published_whole};
 
 use crate::line_rule::{LAST, LineRule, RowFault};
 use crate::marks::{clear, only};
@@ -72,13 +70,13 @@ impl LineRule for Published {
 
     ghost row = { λ _. published_row };
 
-    ghost algorithms = { Prim.search rules };
+    ghost algorithms = { λ _. published_algorithms };
 
-    ghost unserved = { Prim.search rules };
+    ghost unserved = { λ _. published_unserved };
 
-    ghost beyond = { Prim.search rules };
+    ghost beyond = { λ _. published_beyond };
 
-    ghost whole = { λ s a m n marks e. row_if-whole _ (published_marks m n) m (length_published m n) marks e };
+    ghost whole = { λ _. published_whole };
 
     fn serves(&self, algo: u8, m: u16) -> bool {
         algo == 0 && 4 <= m && m <= MOST_FRAGMENTS

@@ -1,8 +1,7 @@
 // The rule that sends one fragment after another, over and over.
 ghost use Rattle.std.specs.Prelude.{◌≡◌, ◌-◌, ◌%◌, ◌≤◌};
 ghost use Rattle.rules.specs.Repeats.{repeat_serves, repeat_row};
-ghost use Rattle.rules.specs.Rows.{row_if-whole, length-single};
-ghost use Rattle.std.proofs.Common.{rules};
+ghost use Rattle.rules.specs.RuleLaws.{repeat_algorithms, repeat_unserved, repeat_beyond, repeat_whole};
 
 use crate::line_rule::{LAST, LineRule, RowFault};
 use crate::marks::only;
@@ -25,13 +24,13 @@ impl LineRule for Repeat {
 
     ghost row = { λ _. repeat_row };
 
-    ghost algorithms = { Prim.search rules };
+    ghost algorithms = { λ _. repeat_algorithms };
 
-    ghost unserved = { Prim.search rules };
+    ghost unserved = { λ _. repeat_unserved };
 
-    ghost beyond = { Prim.search rules };
+    ghost beyond = { λ _. repeat_beyond };
 
-    ghost whole = { λ s a m n marks e. row_if-whole _ _ m (length-single m ((n - 1) % m)) marks e };
+    ghost whole = { λ _. repeat_whole };
 
     fn serves(&self, algo: u8, m: u16) -> bool {
         algo == 7 && 1 <= m && m <= MOST_FRAGMENTS

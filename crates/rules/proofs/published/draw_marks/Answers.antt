@@ -1,7 +1,7 @@
 use Rattle.std.proofs.Common.{◌≡◌, ℕ, suc, ◌+◌, ◌-◌, ◌/◌, ◌<◌, false, sym, refl, subst, arith}
-use Rattle.rules.specs.Draws.{step, within, drawn, draws}
+use Rattle.rules.specs.Draws.{step, within, drawn}
 use Rattle.rules.specs.Bound.{rejected}
-use Rattle.rules.specs.Rejecting.{step-below}
+use Rattle.rules.specs.Rejecting.{step_below}
 use Rattle.rules.specs.Turns.{drawn_in, drawn_out, fewer_left, draws_none, draws_more, tested_in, tested_out}
 use Rattle.rules.proofs.published.draw_marks.Goals as goal
 
@@ -29,7 +29,7 @@ pub values-preserved : goal.values-preserved
 values-preserved c =
     let on = drawn_out c.args.m c.values.x (omega arith) (omega arith) c.values.invariant.0 (out c) in
     let kept = c.values.invariant.1 in
-    (omega (arith, step-below c.values.x c.values.invariant.0), cc)
+    (omega (arith, step_below c.values.x c.values.invariant.0), cc)
 
 pub draws-preserved : goal.draws-preserved
 draws-preserved c =
@@ -42,7 +42,7 @@ draws-preserved c =
     let more = draws_more (m / 2 - (c.draws.counter + 1)) m c.draws.x c.draws.marks in
     let inv = c.draws.invariant.1 in
     let by = c.divisor-by.ensures in
-    (omega (arith, step-below c.values.x c.values.invariant.0), cc)
+    (omega (arith, step_below c.values.x c.values.invariant.0), cc)
 
 pub returns : goal.returns
 returns c =

@@ -1,9 +1,9 @@
 use Rattle.std.proofs.Common.{arith}
-use Rattle.rules.specs.Steps.{fed-below, fed-code, step-code}
+use Rattle.rules.specs.Steps.{fed_below, fed_code, step_code}
 use Rattle.rules.proofs.published.step.Goals as goal
 
-pub overflow-add-result : goal.overflow-add-result
-overflow-add-result c = record { fits = omega (arith, fed-code c.args.x, fed-below c.args.x) }
+pub overflow_add-result : goal.overflow_add-result
+overflow_add-result c = record { fits = omega (arith, fed_code c.args.x, fed_below c.args.x) }
 
 pub returns : goal.returns
-returns c = step-code c.args.x
+returns c = step_code c.args.x

@@ -37,7 +37,7 @@ returns-else-n-m c =
     let has = numbered (published_serves c.args.algo m) n served (omega arith) (omega arith) in
     let row : published_marks m n ≡ draws (m / 2) m (seed m n) (replicate m false) = cond-false (leb n m) _ _ (lt-leb n m (omega arith)) in
     let front = draws_front (m / 2) m (seed m n) (replicate m false) (drop m marks) range.0 range.1 (omega arith) (length-replicate m false) in
-    let made : c.draw-marks.new.marks ≡ published_marks m n ++ drop m marks = cc in
+    let made : c.draw_marks.new.marks ≡ published_marks m n ++ drop m marks = cc in
     record {
       answer = row_answered _ _ (published_marks m n) long has;
       list = made ∙ row_filled _ _ (published_marks m n) marks m long has (length_published m n);
