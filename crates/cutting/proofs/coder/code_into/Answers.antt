@@ -11,8 +11,8 @@ returns c =
     let out = c.args.out.now in
     let all : c.args.size - 0 ≡ c.args.size = omega arith in
     let part : length (take (c.args.size - 0) out) ≡ c.args.size = simp length-take (omega arith) in
-    let coded-is : c.sum-marked.new.part ≡ coded c.args.size marks (cut (length marks) c.args.size c.args.block.now) =
-    c.sum-marked.ensures ∙ ap (λ n. coded n marks (cut (length marks) n c.args.block.now)) part in
+    let coded-is : c.sum_marked.new.part ≡ coded c.args.size marks (cut (length marks) c.args.size c.args.block.now) =
+    c.sum_marked.ensures ∙ ap (λ n. coded n marks (cut (length marks) n c.args.block.now)) part in
     record {
       answer = rw long;
       bytes = rw long (ap (λ p. p ++ drop (c.args.size - 0) out) coded-is ∙ ap (λ n. coded c.args.size marks (cut (length marks) c.args.size c.args.block.now) ++ drop n out) all);

@@ -24,7 +24,7 @@ loop-i-preserved c =
     elim c.if-marks-i.branch [
       | then-marks-i w ↦
           let more = turn_yes s c.min-n.result c.loop-i.i c.loop-i.part c.loop-i.rest.now _ c.args.marks.now within long taken c.loop-i.invariant.1 w.if-marks-i.true in
-          let places = w.add-into.ensures.places in
+          let places = w.add_into.ensures.places in
           let none = sub-zero c.min-n.result in
           (kept, cc)
       | else-marks-i w ↦
