@@ -2,7 +2,7 @@
 use Rattle.std.proofs.Common.{◌≡◌, ℕ, zero, suc, ◌<◌, ◌≢◌, List, [], ◌∷◌, length, replicate, sym, refl, ap, ◌∙◌, arith}
 use lib.ListN.{length-replicate}
 use lib.Bits.{xor_lt}
-use Rattle.std.specs.List.{AllByRecursion as All}
+use Rattle.std.specs.List.{AllByRecursion}
 use Rattle.adding.specs.Sums.{Laws, sum}
 use Rattle.adding.specs.Laws.{byte_laws}
 use Rattle.adding.proofs.Lists.{length-sum, sum_assoc, sum_comm, sum_zeros, sum_self}
@@ -11,16 +11,16 @@ use Rattle.coding.proofs.Spaces.{Space}
 
 -- so are the lists of one length over any kind of element, where adding keeps a property of the elements
 module _ {E : Type 0} {none : E} {add : E → E → E} (laws : Laws none add) (Ok : E → Type 0) (ok-none : Ok none) (ok_add : (x y : E) → Ok x → Ok y → Ok (add x y)) where
-  all_replicate : (n : ℕ) → All Ok (replicate n none)
+  all_replicate : (n : ℕ) → AllByRecursion Ok (replicate n none)
   all_replicate zero = tt
   all_replicate (suc n) = (ok-none, all_replicate n)
 
-  All-sum : (xs ys : List E) → All Ok xs → All Ok ys → All Ok (sum add xs ys)
+  All-sum : (xs ys : List E) → AllByRecursion Ok xs → AllByRecursion Ok ys → AllByRecursion Ok (sum add xs ys)
   All-sum [] ys h k = tt
   All-sum (x ∷ xs) [] h k = tt
   All-sum (x ∷ xs) (y ∷ ys) h k = (ok_add x y h.0 k.0, All-sum xs ys h.1 k.1)
 
-  pub list_space : (n : ℕ) → Space (λ (xs : List E). (length xs ≡ n) × All Ok xs) (replicate n none) (sum add)
+  pub list_space : (n : ℕ) → Space (λ (xs : List E). (length xs ≡ n) × AllByRecursion Ok xs) (replicate n none) (sum add)
   list_space n =
       record {
         In-none = (length-replicate n none, all_replicate n);

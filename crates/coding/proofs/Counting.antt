@@ -2,7 +2,7 @@
 use Rattle.std.proofs.Common.{◌≡◌, ℕ, zero, suc, ◌+◌, ◌<◌, ◌≤◌, true, false, ◌≢◌, List, [], ◌∷◌, map, length, replicate, sym, refl, ap, ◌∙◌, ap₂, suc-ne-zero, arith}
 use native.Mathlib.Nat.{suc_inj}
 use lib.ListN.{length-map, length-replicate}
-use Rattle.std.specs.List.{AllByRecursion as All}
+use Rattle.std.specs.List.{AllByRecursion}
 use Rattle.std.proofs.ByRecursion.{All-map, All-weaker}
 use Rattle.coding.specs.Rows.{Row}
 use Rattle.coding.specs.Blocks.{marked}
@@ -17,7 +17,7 @@ free [] = []
 free (empty ∷ ls) = (true ∷ replicate (length ls) false) ∷ map (λ (r : Row). false ∷ r) (free ls)
 free (filled t q ∷ ls) = map (λ (r : Row). false ∷ r) (free ls)
 
-All-unmap : {X Y : Type 0} (P : Y → Type 0) (f : X → Y) (xs : List X) → All P (map f xs) → All (λ (x : X). P (f x)) xs
+All-unmap : {X Y : Type 0} (P : Y → Type 0) (f : X → Y) (xs : List X) → AllByRecursion P (map f xs) → AllByRecursion (λ (x : X). P (f x)) xs
 All-unmap P f [] h = tt
 All-unmap P f (x ∷ xs) h = (h.0, All-unmap P f xs h.1)
 
@@ -27,7 +27,7 @@ module _ {V : Type 0} where
   length-free (empty ∷ ls) = ap suc (length-map (free ls) (λ (r : Row). false ∷ r) ∙ length-free ls)
   length-free (filled t q ∷ ls) = length-map (free ls) (λ (r : Row). false ∷ r) ∙ length-free ls
 
-  pub rows_free : (ls : List (Slot V)) → All (λ (r : Row). length r ≡ length ls) (free ls)
+  pub rows_free : (ls : List (Slot V)) → AllByRecursion (λ (r : Row). length r ≡ length ls) (free ls)
   rows_free [] = tt
   rows_free (empty ∷ ls) = (
     ap suc (length-replicate (length ls) false),
@@ -41,7 +41,7 @@ module _ {V : Type 0} where
 module _ {V : Type 0} {In : V → Type 0} {none : V} {add : V → V → V} (sp : Space In none add) where
   -- the two blocks have the same under each row
   abbrev pub Alike : List Row → List V → List V → Type 0
-  Alike rows b b' = All (λ (r : Row). marked none add r b ≡ marked none add r b') rows
+  Alike rows b b' = AllByRecursion (λ (r : Row). marked none add r b ≡ marked none add r b') rows
 
   nothing_marked : (n : ℕ) (b : List V) → marked none add (replicate n false) b ≡ none
   nothing_marked zero b = refl
@@ -144,7 +144,7 @@ module _ {V : Type 0} {In : V → Type 0} {none : V} {add : V → V → V} (sp :
             (y.0, (y.1, x.1));
       }
 
-  pub refined : (rows : List Row) (ls : List (Slot V)) (b₀ : List V) → Sound In ls → All (λ (r : Row). length r ≡ length ls) rows
+  pub refined : (rows : List Row) (ls : List (Slot V)) (b₀ : List V) → Sound In ls → AllByRecursion (λ (r : Row). length r ≡ length ls) rows
       → Whole sp ls b₀ → Fits none add ls b₀ → Refined ls b₀ rows
   refined [] ls b₀ s e w f = record { lines = ls; sound = s; size = refl; count = omega arith; fits = λ b v g. (g, tt) }
   refined (r ∷ rows) ls b₀ s e w f =
@@ -152,7 +152,7 @@ module _ {V : Type 0} {In : V → Type 0} {none : V} {add : V → V → V} (sp :
       (λ ls' s' e' w' f'. refined rows ls' b₀ s' e' w' f')
     where
       go : (o : Outcome V) → Inserted sp ls r (marked none add r b₀) o
-          → ((ls' : List (Slot V)) → Sound In ls' → All (λ (x : Row). length x ≡ length ls') rows → Whole sp ls' b₀ → Fits none add ls' b₀ → Refined ls' b₀ rows)
+          → ((ls' : List (Slot V)) → Sound In ls' → AllByRecursion (λ (x : Row). length x ≡ length ls') rows → Whole sp ls' b₀ → Fits none add ls' b₀ → Refined ls' b₀ rows)
           → Refined ls b₀ (r ∷ rows)
       go (dependent q) h next = refine_dependent ls b₀ r rows q w f h (next ls s e.1 w f)
       go (into ls') h next =
@@ -163,7 +163,7 @@ module _ {V : Type 0} {In : V → Type 0} {none : V} {add : V → V → V} (sp :
 
   -- so fewer rows than lines are empty leave two blocks
   pub no_fewer : (one : V) → In one → one ≢ none → (ls : List (Slot V)) (rows : List Row) → Sound In ls
-      → All (λ (r : Row). length r ≡ length ls) rows
+      → AllByRecursion (λ (r : Row). length r ≡ length ls) rows
       → ((b b' : List V) → Whole sp ls b → Whole sp ls b' → Fits none add ls b → Fits none add ls b' → Alike rows b b' → b ≡ b')
       → missing ls ≤ length rows
   no_fewer one i n ls rows s e only =

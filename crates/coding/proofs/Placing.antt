@@ -1,7 +1,7 @@
 -- Filling the line of a reduced row. Assumes nothing.
 use Rattle.std.proofs.Common.{◌≡◌, suc, true, false, ◌↔◌, List, [], ◌∷◌, length, sym, refl, ap, ◌∙◌, subst, suc-ne-zero}
 use native.Mathlib.Nat.{suc_inj}
-use Rattle.std.specs.List.{AllByRecursion as All}
+use Rattle.std.specs.List.{AllByRecursion}
 use Rattle.coding.specs.Rows.{Row}
 use Rattle.coding.specs.Blocks.{marked}
 use Rattle.coding.specs.Lines.{Slot, Slot.empty, Slot.filled, missing, Fits, Sound, reduce, Outcome, Outcome.dependent, Outcome.into, behind, place, insert}
@@ -11,7 +11,7 @@ use Rattle.coding.proofs.Reducing.{Reduced, none_from_same, same_from_none, leng
 module _ {V : Type 0} {In : V → Type 0} {none : V} {add : V → V → V} (sp : Space In none add) where
   -- the blocks of as many fragments as there are lines
   abbrev pub Whole : List (Slot V) → List V → Type 0
-  Whole ls b = (length b ≡ length ls) × All In b
+  Whole ls b = (length b ≡ length ls) × AllByRecursion In b
 
   -- what placing a reduced row does
   abbrev pub Placed : List (Slot V) → Row → V → Outcome V → Type 0

@@ -1,7 +1,7 @@
 -- Reducing a row and its bytes by the lines. Assumes nothing.
 use Rattle.std.proofs.Common.{◌≡◌, suc, true, false, List, [], ◌∷◌, length, sym, refl, ap, ◌∙◌, suc-ne-zero}
 use native.Mathlib.Nat.{suc_inj}
-use Rattle.std.specs.List.{AllByRecursion as All}
+use Rattle.std.specs.List.{AllByRecursion}
 use Rattle.adding.specs.Sums.{sum, differ}
 use Rattle.adding.proofs.Lists.{length-sum}
 use Rattle.coding.specs.Rows.{Row}
@@ -47,7 +47,7 @@ module _ {V : Type 0} {In : V → Type 0} {none : V} {add : V → V → V} (sp :
 
   -- a block that fits the lines is as far from what is left as from what came
   pub reduce_keeps : (ls : List (Slot V)) (c : Row) (p : V) (b : List V)
-      → Sound In ls → length c ≡ length ls → In p → length b ≡ length ls → All In b → Fits none add ls b
+      → Sound In ls → length c ≡ length ls → In p → length b ≡ length ls → AllByRecursion In b → Fits none add ls b
       → add (marked none add (reduce add ls c p).row b) (reduce add ls c p).bytes ≡ add (marked none add c b) p
   reduce_keeps [] c p b s e h k a f = refl
   reduce_keeps (l ∷ ls) [] p b s e h k a f = refl

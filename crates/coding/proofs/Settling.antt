@@ -1,6 +1,6 @@
 -- Back substitution: some block always fits the lines. Assumes nothing.
 use Rattle.std.proofs.Common.{◌≡◌, suc, List, [], ◌∷◌, length, refl, ap, ◌∙◌}
-use Rattle.std.specs.List.{AllByRecursion as All}
+use Rattle.std.specs.List.{AllByRecursion}
 use Rattle.coding.specs.Lines.{Slot, Slot.empty, Slot.filled, Fits, Sound, settle}
 use Rattle.coding.proofs.Spaces.{Space, cancel, In-marked}
 use Rattle.coding.proofs.Placing.{Whole}
@@ -11,7 +11,7 @@ module _ {V : Type 0} {In : V → Type 0} {none : V} {add : V → V → V} (sp :
   length-settle (empty ∷ ls) = ap suc (length-settle ls)
   length-settle (filled t q ∷ ls) = ap suc (length-settle ls)
 
-  pub In-settle : (ls : List (Slot V)) → Sound In ls → All In (settle none add ls)
+  pub In-settle : (ls : List (Slot V)) → Sound In ls → AllByRecursion In (settle none add ls)
   In-settle [] s = tt
   In-settle (empty ∷ ls) s = (sp.In-none, In-settle ls s)
   In-settle (filled t q ∷ ls) s = (sp.In-add q _ s.1 (In-marked sp t _ (In-settle ls s.2)), In-settle ls s.2)

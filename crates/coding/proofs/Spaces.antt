@@ -1,7 +1,7 @@
 -- Fragments of any kind that can be added: a space, and what a row marks in a list over it. Assumes nothing.
 use Rattle.std.proofs.Common.{◌≡◌, true, false, List, [], ◌∷◌, length, sym, ap, ◌∙◌, suc-ne-zero}
 use native.Mathlib.Nat.{suc_inj}
-use Rattle.std.specs.List.{AllByRecursion as All}
+use Rattle.std.specs.List.{AllByRecursion}
 use Rattle.adding.specs.Sums.{sum, differ}
 use Rattle.coding.specs.Rows.{Row}
 use Rattle.coding.specs.Blocks.{marked}
@@ -27,13 +27,13 @@ module _ {V : Type 0} {In : V → Type 0} {none : V} {add : V → V → V} (sp :
   pub left_swap : (a b c : V) → add a (add b c) ≡ add b (add a c)
   left_swap a b c = sym (sp.assoc a b c) ∙ ap (λ (y : V). add y c) (sp.comm a b) ∙ sp.assoc b a c
 
-  pub In-marked : (r : Row) (b : List V) → All In b → In (marked none add r b)
+  pub In-marked : (r : Row) (b : List V) → AllByRecursion In b → In (marked none add r b)
   In-marked [] b h = sp.In-none
   In-marked (m ∷ r) [] h = sp.In-none
   In-marked (false ∷ r) (f ∷ b) h = In-marked r b h.1
   In-marked (true ∷ r) (f ∷ b) h = sp.In-add f (marked none add r b) h.0 (In-marked r b h.1)
 
-  pub linear : (c t : Row) (b : List V) → length c ≡ length t → All In b
+  pub linear : (c t : Row) (b : List V) → length c ≡ length t → AllByRecursion In b
       → marked none add (sum differ c t) b ≡ add (marked none add c b) (marked none add t b)
   linear [] [] b e h = sym (sp.unit none sp.In-none)
   linear [] (y ∷ t) b e h = absurd (suc-ne-zero (length t) (sym e))

@@ -1,7 +1,7 @@
 -- Lines that stand for the blocks that agree with what was accepted. Assumes nothing.
 use Rattle.std.proofs.Common.{◌≡◌, ℕ, zero, suc, ◌<◌, false, List, [], ◌∷◌, map, length, replicate, sym, refl, ap, ◌∙◌, subst, suc-ne-zero}
 use lib.ListN.{length-replicate}
-use Rattle.std.specs.List.{AllByRecursion as All}
+use Rattle.std.specs.List.{AllByRecursion}
 use Rattle.coding.specs.Rows.{Row}
 use Rattle.coding.specs.Blocks.{zeros, xors, coded, Bytes, IsBlock}
 use Rattle.coding.specs.Agreement.{Equation, Proper, LeastFurther, SomeBlock, OnlyBlock}
@@ -65,12 +65,12 @@ module _ {m s : ℕ} {accepted : List (Equation (List ℕ))} {ls : List (Slot (L
     (
       free ls,
       length-free ls,
-      subst (λ (n : ℕ). All (λ (r : Row). length r ≡ n) (free ls)) k.size (rows_free ls),
+      subst (λ (n : ℕ). AllByRecursion (λ (r : Row). length r ≡ n) (free ls)) k.size (rows_free ls),
       λ b b' w w' a a' u. pinned (byte_space s) ls b b' k.sound (whole b w) (whole b' w') ((k.same b w).0 a) ((k.same b' w').0 a') u,
     ),
     λ rows e only.
         no_fewer (byte_space s) (one s) (one_bytes s) (one_apart s h) ls rows k.sound
-        (subst (λ (n : ℕ). All (λ (r : Row). length r ≡ n) rows) (sym k.size) e)
+        (subst (λ (n : ℕ). AllByRecursion (λ (r : Row). length r ≡ n) rows) (sym k.size) e)
         (λ b b' w w' f f' u.
         only b b' (block b w) (block b' w') ((k.same b (block b w)).1 f) ((k.same b' (block b' w')).1 f') u),
   )
@@ -89,7 +89,7 @@ module _ {m s : ℕ} {accepted : List (Equation (List ℕ))} {ls : List (Slot (L
         (k.same b (block b w)).1 f,
         λ b' w' a'.
             pinned (byte_space s) ls b' b k.sound (whole b' w') w ((k.same b' w').0 a') f
-            (subst (λ (rs : List Row). All (λ (r : Row). coded s r b' ≡ coded s r b) rs) (sym (nothing_free ls e)) tt),
+            (subst (λ (rs : List Row). AllByRecursion (λ (r : Row). coded s r b' ≡ coded s r b) rs) (sym (nothing_free ls e)) tt),
       )
 
   pub possible : SomeBlock m s accepted

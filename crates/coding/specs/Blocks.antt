@@ -1,6 +1,6 @@
 -- Blocks and their coded fragments. Assumes nothing.
 use Rattle.std.specs.Prelude.{◌≡◌, ℕ, ◌<◌, true, false, List, [], ◌∷◌, length, replicate, bit_xor}
-use Rattle.std.specs.List.{AllByRecursion as All}
+use Rattle.std.specs.List.{AllByRecursion}
 use Rattle.adding.specs.Sums.{sum}
 use Rattle.coding.specs.Rows.{Row}
 
@@ -21,11 +21,11 @@ xors = sum bit_xor
 
 -- s bytes
 abbrev pub Bytes : ℕ → List ℕ → Type 0
-Bytes s p = (length p ≡ s) × All (λ (x : ℕ). x < 256) p
+Bytes s p = (length p ≡ s) × AllByRecursion (λ (x : ℕ). x < 256) p
 
 -- a block: m fragments of s bytes
 abbrev pub IsBlock : ℕ → ℕ → List (List ℕ) → Type 0
-IsBlock m s b = (length b ≡ m) × All (Bytes s) b
+IsBlock m s b = (length b ≡ m) × AllByRecursion (Bytes s) b
 
 -- the elements of a list that a row marks, added up; `none` where it marks nothing
 abbrev pub marked : {V : Type 0} → V → (V → V → V) → Row → List V → V

@@ -1,7 +1,7 @@
 -- The fragments of a block: their sizes, and the block again. Assumes nothing.
 use Rattle.std.proofs.Common.{◌≡◌, ℕ, zero, suc, ◌+◌, ◌-◌, ◌*◌, ◌<◌, ◌≤◌, List, [], ◌∷◌, ◌++◌, length, take, drop, sym, refl, ap, ◌∙◌, ⊎_elim, append_assoc, append-nil, suc-mul, zero-mul, arith, length-append, length-drop, take-append-drop, length-take}
 use lib.ListN.{length-replicate, replicate-append-replicate}
-use Rattle.std.specs.List.{AllByRecursion as All}
+use Rattle.std.specs.List.{AllByRecursion}
 use Rattle.std.proofs.lemmas.List.{take_all, drop_all}
 use Rattle.std.proofs.ByRecursion.{All-append, All-take, All-drop}
 use Rattle.std.proofs.lemmas.Bool.{cases_lt}
@@ -16,13 +16,13 @@ pub length_cut : (m s : ℕ) (bytes : List ℕ) → length (cut m s bytes) ≡ m
 length_cut zero s bytes = refl
 length_cut (suc m) s bytes = ap suc (length_cut m s (drop s bytes))
 
-pub fragment_bytes : (s : ℕ) (bytes : List ℕ) → All (λ (x : ℕ). x < 256) bytes → Bytes s (fragment s bytes)
+pub fragment_bytes : (s : ℕ) (bytes : List ℕ) → AllByRecursion (λ (x : ℕ). x < 256) bytes → Bytes s (fragment s bytes)
 fragment_bytes s bytes h = (
   length-fragment s bytes,
   All-append (λ (x : ℕ). x < 256) (take s bytes) (zeros (s - length bytes)) (All-take (λ (x : ℕ). x < 256) s bytes h) (byte_space (s - length bytes)).In-none.1,
 )
 
-All-cut : (m s : ℕ) (bytes : List ℕ) → All (λ (x : ℕ). x < 256) bytes → All (Bytes s) (cut m s bytes)
+All-cut : (m s : ℕ) (bytes : List ℕ) → AllByRecursion (λ (x : ℕ). x < 256) bytes → AllByRecursion (Bytes s) (cut m s bytes)
 All-cut zero s bytes h = tt
 All-cut (suc m) s bytes h = (fragment_bytes s bytes h, All-cut m s (drop s bytes) (All-drop (λ (x : ℕ). x < 256) s bytes h))
 

@@ -1,6 +1,6 @@
 -- A block of bytes as fragments. Assumes nothing.
 use Rattle.std.specs.Prelude.{◌≡◌, ℕ, zero, suc, ◌-◌, ◌*◌, ◌<◌, ◌≤◌, List, [], ◌∷◌, ◌++◌, length, take, drop}
-use Rattle.std.specs.List.{flat_map, AllByRecursion as All}
+use Rattle.std.specs.List.{flat_map, AllByRecursion}
 use Rattle.coding.specs.Blocks.{zeros, IsBlock}
 
 -- the first s bytes, and zeros where there are not so many
@@ -14,7 +14,7 @@ cut (suc m) s bytes = fragment s bytes ∷ cut m s (drop s bytes)
 
 -- bytes cut into m fragments of s are a block
 abbrev pub CutIsBlock : Type 0
-CutIsBlock = (m s : ℕ) (bytes : List ℕ) → All (λ (x : ℕ). x < 256) bytes → IsBlock m s (cut m s bytes)
+CutIsBlock = (m s : ℕ) (bytes : List ℕ) → AllByRecursion (λ (x : ℕ). x < 256) bytes → IsBlock m s (cut m s bytes)
 
 -- where they fit, the fragments put together again are the bytes and then zeros
 abbrev pub CutIsWhole : Type 0

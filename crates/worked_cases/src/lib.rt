@@ -2,13 +2,13 @@
 #![tactic(auto)]
 
 ghost use Rattle.std.specs.Prelude.{◌≡◌, length};
-ghost use Rattle.std.specs.List.{AllByRecursion as All};
+ghost use Rattle.std.specs.List.{AllByRecursion};
 ghost use Rattle.worked_cases.specs.Table.{table, Holds};
 
 // The proof is cited here, so that the public function has no proof file of its own.
 fn computed() -> usize
     ensures count { result ≡ length table }
-    ensures cases { All Holds table }
+    ensures cases { AllByRecursion Holds table }
 {
     9
 }
@@ -16,7 +16,7 @@ fn computed() -> usize
 /// Every case of the table holds of the definitions that rules and decoding are proved against. Answers how many there are.
 pub fn cases_hold() -> usize
     ensures count { result ≡ length table }
-    ensures cases { All Holds table }
+    ensures cases { AllByRecursion Holds table }
 {
     computed()
 }

@@ -1,10 +1,10 @@
 use Rattle.std.proofs.Common.{refl}
-use Rattle.std.specs.List.{AllByRecursion as All}
+use Rattle.std.specs.List.{AllByRecursion}
 use Rattle.rules.specs.Draws.{step, within, draw, drawn, draws}
 use Rattle.worked_cases.specs.Table.{table, Holds}
 use Rattle.worked_cases.proofs.computed.Goals as goal
 
-all_hold : All Holds table
+all_hold : AllByRecursion Holds table
 unfolding step within draw drawn draws
 all_hold = (
   refl,
