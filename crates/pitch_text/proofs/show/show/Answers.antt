@@ -9,7 +9,7 @@ use Rattle.pitch_text.proofs.show.show.Goals as goal
 
 pub loop-e-preserved : goal.loop-e-preserved
 loop-e-preserved c =
-    joined_next line_of Fits16 (head_lines c.args.table.now.axis c.args.table.now.screw) (string_bytes c.loop-e.out) (string_bytes c.push-str.new.self) (string_bytes c.in-ok-line.line) (vec_items c.args.table.now.entries) c.deref-e-items.result.now c.loop-e.e-index _ c.deref-e-items.ensures.value c.loop-e-test.true c.in-ok-line.ensures.bytes (c.in-ok-push-str.ensures.bytes ∙ ap (λ xs. string_bytes c.loop-e.out ++ xs) c.as-str.ensures.value) c.line-of.ensures.fits c.loop-e.invariant
+    joined_next line_of Fits16 (head_lines c.args.table.now.axis c.args.table.now.screw) (string_bytes c.loop-e.out) (string_bytes c.push_str.new.self) (string_bytes c.in_ok-line.line) (vec_items c.args.table.now.entries) c.deref-e-items.result.now c.loop-e.e-index _ c.deref-e-items.ensures.value c.loop-e-test.true c.in_ok-line.ensures.bytes (c.in_ok-push_str.ensures.bytes ∙ ap (λ xs. string_bytes c.loop-e.out ++ xs) c.as_str.ensures.value) c.line_of.ensures.fits c.loop-e.invariant
 
 pub returns : goal.returns
 returns c =

@@ -7,7 +7,7 @@ use Rattle.pitch_text.proofs.text.read_table.Goals as goal
 
 pub returns-in-Err : goal.returns-in-Err
 returns-in-Err c =
-    let test : eqb (length c.loop-rest.rest.now) 0 ≡ false = sym c.is-empty.ensures ∙ c.loop-rest-test.true in
+    let test : eqb (length c.loop-rest.rest.now) 0 ≡ false = sym c.is_empty.ensures ∙ c.loop-rest-test.true in
     refused c.loop-rest.line (sofar_of c.loop-rest.reading) c.loop-rest.rest.now c.cut.result.0.now c.cut.result.1.now (read_text c.args.text.now) (grind (arith, nat_tests)) c.cut.ensures.front c.cut.ensures.back c.loop-rest.invariant.0 c.in-Err.what c.in-Err.ensures _ c.loop-rest.invariant.2
 
 pub loop-rest-smaller : goal.loop-rest-smaller
@@ -25,4 +25,4 @@ loop-rest-preserved c =
 
 pub returns : goal.returns
 returns c =
-    rw (read_end c.loop-rest.line (sofar_of c.loop-rest.reading) c.loop-rest.rest.now (read_text c.args.text.now) (search rules) c.loop-rest.invariant.0) at (c.table-of.ensures (length (lines_of c.args.text.now)))
+    rw (read_end c.loop-rest.line (sofar_of c.loop-rest.reading) c.loop-rest.rest.now (read_text c.args.text.now) (search rules) c.loop-rest.invariant.0) at (c.table_of.ensures (length (lines_of c.args.text.now)))

@@ -16,4 +16,4 @@ loop-i-preserved c =
 pub returns : goal.returns
 returns c =
     let f = scan_all (λ x. eqb x c.args.b) c.args.s.now c.loop-i.i (length c.args.s.now) (search rules) (search rules) c.loop-i.invariant in
-    record { front = c.split-at.ensures.front ∙ f.front; back = c.split-at.ensures.back ∙ past_end _ _ f }
+    record { front = c.split_at.ensures.front ∙ f.front; back = c.split_at.ensures.back ∙ past_end _ _ f }
