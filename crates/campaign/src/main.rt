@@ -14,6 +14,7 @@ use report::{Hex, Marked};
 use rules::line_rule::{LAST, LineRule};
 use rules::published::Published;
 use std::fs;
+use std::process::ExitCode;
 
 // The FragAlgo of the published rule.
 const ALGO: u8 = 0;
@@ -105,10 +106,13 @@ fn run(rt: &HostRuntime) -> anyhow::Result<()> {
     Ok(())
 }
 
-fn main(rt: HostRuntime) -> anyhow::Result<()> {
-    let done = run(&rt);
-    if let Err(fault) = &done {
-        eprintln!(rt; "campaign: {fault}")?;
+fn main(rt: HostRuntime) -> ExitCode {
+    match run(&rt) {
+        Ok(()) => ExitCode::SUCCESS,
+        Err(fault) => {
+            // Where even this cannot be written, the exit status still tells.
+            let _ = eprintln!(rt; "campaign: {fault}");
+            ExitCode::FAILURE
+        }
     }
-    done
 }

@@ -1,4 +1,5 @@
 // What the program is asked for on its command line: TABLE [SIZE [SPARES]].
+use anyhow::anyhow;
 use coding::LARGEST_FRAGMENT;
 use std::env;
 
@@ -23,7 +24,7 @@ pub(crate) fn read_options(rt: &HostRuntime) -> anyhow::Result<Options> {
     let mut args = env::args(rt)?;
     let _ = args.next();
     let Some(table) = args.next() else {
-        return Err(USAGE.into());
+        return Err(anyhow!(USAGE));
     };
     let size = match args.next() {
         Some(text) => text.as_str().parse::<u8>(),
@@ -34,10 +35,10 @@ pub(crate) fn read_options(rt: &HostRuntime) -> anyhow::Result<Options> {
         None => Ok(SPARES),
     };
     let (Ok(size), Ok(spares), None) = (size, spares, args.next()) else {
-        return Err(USAGE.into());
+        return Err(anyhow!(USAGE));
     };
     if size == 0 || size > LARGEST_FRAGMENT {
-        return Err(USAGE.into());
+        return Err(anyhow!(USAGE));
     }
     Ok(Options {
         table,
