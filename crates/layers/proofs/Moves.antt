@@ -4,7 +4,7 @@ use Rattle.std.proofs.lemmas.List.{get_or-set_same, get_or-set_other, get_or-map
 use Rattle.std.proofs.lemmas.Bool.{cases_Bool, cases_lt, cases_eq, cond-true, cond-false, both_ways, lt-ltb, le-ltb, ltb-true, eqb-true, eq-eqb, ne_eqb, and_parts, or_cases}
 use Rattle.layers.specs.declared.spare.Spare.{Spare}
 use Rattle.layers.specs.declared.spare.Spare.TheVariants.{Free, Spent, Of}
-use Rattle.layers.specs.Spared.{is_of, is_free, retired, own_spare, place_of, usable, next_spare, takes_by, target, moved_to, table_after, place-below}
+use Rattle.layers.specs.Spared.{is_of, is_free, retired, own_spare, place_of, usable, next_spare, takes_by, target, moved_to, table_after, place_below}
 use Rattle.layers.specs.Places.{After}
 use Rattle.layers.proofs.Lows.{low_passes, low_same, low_only}
 
@@ -51,8 +51,8 @@ place_same k b table other p e = ap (λ o. cond (ltb o k) (b + o) p) e
 -- with k spares from b on
 module _ (k b : ℕ) (table : List Spare) where
   -- two cells have two places
-  pub place-apart : (p q : ℕ) → p < b → q < b → (q ≡ p → ⊥) → place_of k b table q ≡ place_of k b table p → ⊥
-  place-apart p q hp hq ne same = ⊎_elim
+  pub place_apart : (p q : ℕ) → p < b → q < b → (q ≡ p → ⊥) → place_of k b table q ≡ place_of k b table p → ⊥
+  place_apart p q hp hq ne same = ⊎_elim
       (λ (op : own_spare k table p < k). ⊎_elim
       (λ (oq : own_spare k table q < k).
       let equal : own_spare k table q ≡ own_spare k table p = omega (arith, same, place_own k b table p op, place_own k b table q oq) in
@@ -70,7 +70,7 @@ module _ (k b : ℕ) (table : List Spare) where
   -- which cells take a write hangs on the cells below alone
   pub takes_same : (t u : ℕ → Bool) → ((y : ℕ) → y < b + k → t y ≡ u y) → (q : ℕ) → q < b → takes_by k b table t q ≡ takes_by k b table u q
   takes_same t u all q hq =
-      ap (λ x. x || ltb (next_spare k b table t) k) (all (place_of k b table q) (place-below k b table q hq))
+      ap (λ x. x || ltb (next_spare k b table t) k) (all (place_of k b table q) (place_below k b table q hq))
       ∙ ap (λ n. u (place_of k b table q) || ltb n k) (low_same _ _ k (λ i hi. ap (λ x. is_free (get_or table i Free) && x) (all (b + i) (omega arith))))
 
 -- the spare j, unused so far, becomes the place of cell p
@@ -102,8 +102,8 @@ module _ (k b : ℕ) (table : List Spare) (p j : ℕ) (within : j < k) (long : k
   place_kept : (q : ℕ) → (q ≡ p → ⊥) → place_of k b (moved_to table j p) q ≡ place_of k b table q
   place_kept q ne = place_same k b table (moved_to table j p) q (own_kept q ne)
 
-  apart-from-free : (q : ℕ) → q < b → place_of k b table q ≡ b + j → ⊥
-  apart-from-free q hq same = ⊎_elim
+  apart_from_free : (q : ℕ) → q < b → place_of k b table q ≡ b + j → ⊥
+  apart_from_free q hq same = ⊎_elim
       (λ (oq : own_spare k table q < k).
       let equal : own_spare k table q ≡ j = omega (arith, same, place_own k b table q oq) in
       both_ways (is_of q (get_or table j Free)) (free_of (get_or table j Free) q unused) (ap (λ i. is_of q (get_or table i Free)) (sym equal) ∙ low_passes (λ j. is_of q (get_or table j Free)) k oq))
@@ -125,9 +125,9 @@ module _ (k b : ℕ) (table : List Spare) (t : ℕ → Bool) (p : ℕ) (low : p 
     by : (x : Bool) → t (place_of k b table p) ≡ x → After k b table p (cond x (place_of k b table p) (b + next_spare k b table t)) (cond x table (moved_to table (next_spare k b table t) p))
     by true e = record {
       here = refl;
-      others = λ q hq ne. (refl, place-apart k b table p q low hq ne);
+      others = λ q hq ne. (refl, place_apart k b table p q low hq ne);
     }
     by false e = record {
       here = place_moved k b table p (next_spare k b table t) (free e).0 (long e) (free e).1;
-      others = λ q hq ne. (place_kept k b table p (next_spare k b table t) (free e).0 (long e) (free e).1 q ne, apart-from-free k b table p (next_spare k b table t) (free e).0 (long e) (free e).1 q hq);
+      others = λ q hq ne. (place_kept k b table p (next_spare k b table t) (free e).0 (long e) (free e).1 q ne, apart_from_free k b table p (next_spare k b table t) (free e).0 (long e) (free e).1 q hq);
     }

@@ -5,10 +5,10 @@ use Rattle.std.proofs.lemmas.List.{get_or-set_same, get_or-set_other, get_or-map
 use Rattle.std.proofs.lemmas.Bool.{cases_Bool, cases_lt, cases_eq, cond-true, cond-false, both_ways, lt-ltb, ltb-true, and_parts, and_from, or_left, or_right, or_cases}
 use Rattle.layers.specs.declared.spare.Spare.{Spare}
 use Rattle.layers.specs.declared.spare.Spare.TheVariants.{Free, Spent, Of}
-use Rattle.layers.specs.Spared.{most_spares, is_of, is_free, retired, place_of, usable, next_spare, takes_by, moved_to, table_after, place-below}
+use Rattle.layers.specs.Spared.{most_spares, is_of, is_free, retired, place_of, usable, next_spare, takes_by, moved_to, table_after, place_below}
 use Rattle.layers.specs.Places.{CanServe, SpareLaws}
 use Rattle.layers.proofs.Lows.{low_first, low_none, low_passes}
-use Rattle.layers.proofs.Moves.{place_self, place-apart, after_write}
+use Rattle.layers.proofs.Moves.{place_self, place_apart, after_write}
 
 all_free : (n j : ℕ) → get_or (replicate n Free) j Free ≡ Free
 all_free n j = ⊎_elim
@@ -80,8 +80,8 @@ used_after k b table t p j e = ⊎_elim
 pub spare_laws : SpareLaws
 spare_laws = record {
   first = unused_place;
-  below = place-below;
-  apart = place-apart;
+  below = place_below;
+  apart = place_apart;
   takes = takes_if;
   taken = takes_from;
   next = serves_next;

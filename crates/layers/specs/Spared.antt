@@ -119,9 +119,9 @@ abbrev pub table_then : {S : Type 0} → (S → Meaning) → Spares S → ℕ �
 table_then meaning s p bytes = table_after (held_in meaning s) (left_in meaning s) s.table (accepting (meaning s.below) bytes) p
 
 -- a cell lies on a cell of the store below
-pub place-below : (k b : ℕ) (table : List Spare) (p : ℕ) → p < b → place_of k b table p < b + k
+pub place_below : (k b : ℕ) (table : List Spare) (p : ℕ) → p < b → place_of k b table p < b + k
 unfolding place_of
-place-below k b table p h = by (nat_lt (own_spare k table p) k) refl where
+place_below k b table p h = by (nat_lt (own_spare k table p) k) refl where
   by : (t : Bool) → nat_lt (own_spare k table p) k ≡ t → cond t (b + own_spare k table p) p < b + k
   by true e = omega (arith, ltb-true (own_spare k table p) k e)
   by false e = omega arith
@@ -135,5 +135,5 @@ spares_bounded held table m bounds = record {
   whole = λ p h.
       let k = held_by held m in
       let b = left_by held m in
-      bounds.whole (place_of k b table p) (omega (arith, place-below k b table p h));
+      bounds.whole (place_of k b table p) (omega (arith, place_below k b table p h));
 }

@@ -59,11 +59,11 @@ pub(crate) fn move_to(table: &mut [Spare], j: usize, p: usize)
 
 // Writes the bytes to one spare, if it is unused and takes them.
 fn try_one<S: Store>(below: &mut S, s: Spare, at: usize, bytes: &[u8]) -> bool
-    requires place { at < (meaning below.old).count }
-    requires short { length bytes.now ≤ (meaning below.old).size }
-    ensures which { result ≡ (is_free s && accepts (meaning below.old) at bytes.now) }
-    ensures took { result ≡ true → Written (meaning below.old) at bytes.now (meaning below.new) }
-    ensures none { result ≡ false → meaning below.new ≡ meaning below.old }
+    requires place { at < (S.Store.meaning below.old).count }
+    requires short { length bytes.now ≤ (S.Store.meaning below.old).size }
+    ensures which { result ≡ (is_free s && accepts (S.Store.meaning below.old) at bytes.now) }
+    ensures took { result ≡ true → Written (S.Store.meaning below.old) at bytes.now (S.Store.meaning below.new) }
+    ensures none { result ≡ false → S.Store.meaning below.new ≡ S.Store.meaning below.old }
 {
     match s {
         Spare::Free => below.write(at, bytes).is_ok(),
@@ -80,11 +80,11 @@ pub(crate) fn try_spares<S: Store>(
     bytes: &[u8],
 ) -> usize
     requires table { k ≤ length table.now }
-    requires room { base + k ≡ (meaning below.old).count }
-    requires short { length bytes.now ≤ (meaning below.old).size }
-    ensures which { result ≡ next_spare k base table.now (accepting (meaning below.old) bytes.now) }
-    ensures took { result < k → Written (meaning below.old) (base + result) bytes.now (meaning below.new) }
-    ensures none { k ≤ result → meaning below.new ≡ meaning below.old }
+    requires room { base + k ≡ (S.Store.meaning below.old).count }
+    requires short { length bytes.now ≤ (S.Store.meaning below.old).size }
+    ensures which { result ≡ next_spare k base table.now (accepting (S.Store.meaning below.old) bytes.now) }
+    ensures took { result < k → Written (S.Store.meaning below.old) (base + result) bytes.now (S.Store.meaning below.new) }
+    ensures none { k ≤ result → S.Store.meaning below.new ≡ S.Store.meaning below.old }
 {
     for j in 0..k {
         if try_one(below, table[j], base + j, bytes) {

@@ -5,5 +5,5 @@ use Rattle.bottoms.proofs.flash.erases_left_at.Goals as goal
 
 pub returns : goal.returns
 returns c =
-    c.erases-left.ensures
-    ∙ ap erases_left (whole_part c.args.buf.now 256 c.args.p c.start-of-at.result c.start-of-at.ensures.start)
+    c.erases_left.ensures
+    ∙ ap erases_left (whole_part c.args.buf.now 256 c.args.p c.start_of-at.result c.start_of-at.ensures.start)

@@ -4,5 +4,5 @@ use Rattle.bottoms.proofs.parts.copy_part.Goals as goal
 
 pub returns : goal.returns
 returns c =
-    c.copy-from-slice.ensures.after
-    ∙ front_of_part c.args.buf.now c.args.n c.args.p (length c.args.out.now) c.start-of-at.result c.start-of-at.ensures.start c.requires.short
+    c.copy_from_slice.ensures.after
+    ∙ front_of_part c.args.buf.now c.args.n c.args.p (length c.args.out.now) c.start_of-at.result c.start_of-at.ensures.start c.requires.short
