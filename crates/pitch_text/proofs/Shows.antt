@@ -91,17 +91,17 @@ signed_numeric (pos n) f = decimal_numeric n (omega (arith, f.sfits))
 signed_numeric (negsuc n) f = record { bytes = ((omega arith, omega arith), (decimal_numeric (suc n) (omega (arith, f.sfits))).bytes); some = omega arith }
 
 -- where a scan stops
-up_to-at : (p : ℕ → Bool) (w : List ℕ) (x : ℕ) (v : List ℕ) → All (λ y. p y ≡ false) w → p x ≡ true → up_to p (w ++ x ∷ v) ≡ w
-up_to-at p [] x v a h = rw h
-up_to-at p (y ∷ ys) x v a h = rw a.0 (ap (λ t. y ∷ t) (up_to-at p ys x v a.1 h))
+up_to_at : (p : ℕ → Bool) (w : List ℕ) (x : ℕ) (v : List ℕ) → All (λ y. p y ≡ false) w → p x ≡ true → up_to p (w ++ x ∷ v) ≡ w
+up_to_at p [] x v a h = rw h
+up_to_at p (y ∷ ys) x v a h = rw a.0 (ap (λ t. y ∷ t) (up_to_at p ys x v a.1 h))
 
 from_at : (p : ℕ → Bool) (w : List ℕ) (x : ℕ) (v : List ℕ) → All (λ y. p y ≡ false) w → p x ≡ true → from p (w ++ x ∷ v) ≡ x ∷ v
 from_at p [] x v a h = rw h
 from_at p (y ∷ ys) x v a h = rw a.0 (from_at p ys x v a.1 h)
 
-up_to-none : (p : ℕ → Bool) (w : List ℕ) → All (λ y. p y ≡ false) w → up_to p w ≡ w
-up_to-none p [] a = refl
-up_to-none p (y ∷ ys) a = rw a.0 (ap (λ t. y ∷ t) (up_to-none p ys a.1))
+up_to_none : (p : ℕ → Bool) (w : List ℕ) → All (λ y. p y ≡ false) w → up_to p w ≡ w
+up_to_none p [] a = refl
+up_to_none p (y ∷ ys) a = rw a.0 (ap (λ t. y ∷ t) (up_to_none p ys a.1))
 
 from_none : (p : ℕ → Bool) (w : List ℕ) → All (λ y. p y ≡ false) w → from p w ≡ []
 from_none p [] a = refl
@@ -109,21 +109,21 @@ from_none p (y ∷ ys) a = rw a.0 (from_none p ys a.1)
 
 lines_at : (l rest : List ℕ) → All (λ y. eqb y 10 ≡ false) l → lines_of (l ++ 10 ∷ rest) ≡ l ∷ lines_of rest
 lines_at l rest a =
-    let front : up_to (λ y. eqb y 10) (l ++ 10 ∷ rest) ≡ l = up_to-at (λ y. eqb y 10) l 10 rest a refl in
+    let front : up_to (λ y. eqb y 10) (l ++ 10 ∷ rest) ≡ l = up_to_at (λ y. eqb y 10) l 10 rest a refl in
     let back : from (λ y. eqb y 10) (l ++ 10 ∷ rest) ≡ 10 ∷ rest = from_at (λ y. eqb y 10) l 10 rest a refl in
     lines_cut (l ++ 10 ∷ rest) (omega (arith, length-append l (10 ∷ rest))) ∙ rw (front, back)
 
 words_at : (w v : List ℕ) → 0 < length w → All (λ y. blank y ≡ false) w → words_of (w ++ 32 ∷ v) ≡ w ∷ words_of v
 words_at [] v h a = absurd (omega arith)
 words_at (x ∷ xs) v h a =
-    let front : up_to blank (xs ++ 32 ∷ v) ≡ xs = up_to-at blank xs 32 v a.1 refl in
+    let front : up_to blank (xs ++ 32 ∷ v) ≡ xs = up_to_at blank xs 32 v a.1 refl in
     let back : from blank (xs ++ 32 ∷ v) ≡ 32 ∷ v = from_at blank xs 32 v a.1 refl in
     rw a.0 (word_first x (xs ++ 32 ∷ v) ∙ rw (front, back))
 
 words_last : (w : List ℕ) → 0 < length w → All (λ y. blank y ≡ false) w → words_of w ≡ w ∷ []
 words_last [] h a = absurd (omega arith)
 words_last (x ∷ xs) h a =
-    let front : up_to blank xs ≡ xs = up_to-none blank xs a.1 in
+    let front : up_to blank xs ≡ xs = up_to_none blank xs a.1 in
     let back : from blank xs ≡ [] = from_none blank xs a.1 in
     rw a.0 (word_first x xs ∙ rw (front, back))
 
@@ -138,7 +138,7 @@ undelimited w h = All-weaker NumeralByte NoDelimiter (λ x p. let low : 45 ≤ x
 module _ (w v : List ℕ) (w-some : 0 < length w) (v-some : 0 < length v) (w-free : All NoDelimiter w) (v-free : All NoDelimiter v) where
   pair_statement_lem : statement_in (w ++ 32 ∷ v) ≡ pair_statement w v
   pair_statement_lem =
-      let said : before 35 (w ++ 32 ∷ v) ≡ w ++ 32 ∷ v = up_to-none (λ y. eqb y 35) (w ++ 32 ∷ v) (All-append (λ y. eqb y 35 ≡ false) w (32 ∷ v) (All-weaker NoDelimiter (λ y. eqb y 35 ≡ false) (λ x q. q.1) w w-free) (refl, All-weaker NoDelimiter (λ y. eqb y 35 ≡ false) (λ x q. q.1) v v-free)) in
+      let said : before 35 (w ++ 32 ∷ v) ≡ w ++ 32 ∷ v = up_to_none (λ y. eqb y 35) (w ++ 32 ∷ v) (All-append (λ y. eqb y 35 ≡ false) w (32 ∷ v) (All-weaker NoDelimiter (λ y. eqb y 35 ≡ false) (λ x q. q.1) w w-free) (refl, All-weaker NoDelimiter (λ y. eqb y 35 ≡ false) (λ x q. q.1) v v-free)) in
       let words : words_of (w ++ 32 ∷ v) ≡ w ∷ words_of v = words_at w v w-some (All-weaker NoDelimiter (λ y. blank y ≡ false) (λ x q. q.0) w w-free) in
       let last : words_of v ≡ v ∷ [] = words_last v v-some (All-weaker NoDelimiter (λ y. blank y ≡ false) (λ x q. q.0) v v-free) in
       ap (λ l. statement_of (words_of l)) said ∙ (ap statement_of words ∙ ap (λ ws. statement_of (w ∷ ws)) last)
