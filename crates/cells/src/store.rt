@@ -16,7 +16,7 @@ pub const LARGEST_CELL: usize = 239;
 pub trait Store {
     ghost meaning: { Self → Meaning };
 
-    // A member and not a `law`, since a law is not proved for a store over a lent buffer.
+    // Each kind of store gives the proof.
     ghost bounds: { (s : Self) → Bounded (meaning s) };
 
     /// How many cells there are.

@@ -1,2 +1,6 @@
 pub mod Fronts
+pub mod Rows
+pub mod Rejecting
+pub mod Steps
+pub mod Turns
 pub mod Runs

@@ -3,8 +3,8 @@ use Rattle.std.proofs.Common.{◌≡◌, ℕ, zero, suc, ◌%◌, ◌^◌, ◌<�
 use Rattle.std.proofs.lemmas.Bool.{le-ltb, ltb-true, ltb-false, cases_Bool}
 use Rattle.rules.specs.Draws.{step, width, within, draw, drawn, seed}
 use Rattle.rules.specs.Bound.{RegisterSmall, rejected, reached, after, FewRejected, NoLongRun, DrawsTheFirst}
-use Rattle.rules.specs.Rejecting.{few, rejected_none, rejected_out}
-use Rattle.rules.specs.Turns.{drawn_below, draw_in, draw_out}
+use Rattle.rules.proofs.Rejecting.{few, rejected_none, rejected_out}
+use Rattle.rules.proofs.Turns.{drawn_below, draw_in, draw_out}
 
 reached-below : (count m x : ℕ) → x < 2 ^ 24 → reached count m x < 2 ^ 24
 unfolding reached

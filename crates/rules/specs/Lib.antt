@@ -2,8 +2,4 @@ pub mod Filling
 pub mod Repeats
 pub mod Draws
 pub mod Bound
-pub mod Rows
-pub mod Turns
-pub mod Rejecting
-pub mod Steps
 pub mod RuleLaws

@@ -1,6 +1,6 @@
 use Rattle.std.proofs.Common.{◌≡◌, ◌+◌, true, false, cond, ap, arith}
 use Rattle.rules.specs.Draws.{one_of, powers, width}
-use Rattle.rules.specs.Steps.{power_test}
+use Rattle.rules.proofs.Steps.{power_test}
 use Rattle.rules.proofs.published.divisor.Goals as goal
 
 pub returns-then-is_power_of_two : goal.returns-then-is_power_of_two

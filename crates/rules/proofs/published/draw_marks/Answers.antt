@@ -1,8 +1,8 @@
 use Rattle.std.proofs.Common.{◌≡◌, ℕ, suc, ◌+◌, ◌-◌, ◌/◌, ◌<◌, false, sym, refl, subst, arith}
 use Rattle.rules.specs.Draws.{step, within, drawn}
 use Rattle.rules.specs.Bound.{rejected}
-use Rattle.rules.specs.Rejecting.{step_below}
-use Rattle.rules.specs.Turns.{drawn_in, drawn_out, fewer_left, draws_none, draws_more, tested_in, tested_out}
+use Rattle.rules.proofs.Rejecting.{step_below}
+use Rattle.rules.proofs.Turns.{drawn_in, drawn_out, fewer_left, draws_none, draws_more, tested_in, tested_out}
 use Rattle.rules.proofs.published.draw_marks.Goals as goal
 
 pub draws-init : goal.draws-init

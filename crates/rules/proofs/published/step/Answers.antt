@@ -1,5 +1,5 @@
 use Rattle.std.proofs.Common.{arith}
-use Rattle.rules.specs.Steps.{fed_below, fed_code, step_code}
+use Rattle.rules.proofs.Steps.{fed_below, fed_code, step_code}
 use Rattle.rules.proofs.published.step.Goals as goal
 
 pub overflow_add-result : goal.overflow_add-result

@@ -4,8 +4,9 @@ use Rattle.std.proofs.lemmas.Bool.{le-leb, lt-leb, cond-true, cond-false}
 use Rattle.std.proofs.lemmas.Bool.Decides.{nat_tests}
 use Rattle.rules.specs.Filling.{single}
 use Rattle.rules.specs.Draws.{published_serves, published_marks, draws, seed}
-use Rattle.rules.specs.Rows.{row_answered, row_filled, numbered}
-use Rattle.rules.specs.Turns.{length_published, draws_front}
+use Rattle.rules.proofs.Rows.{row_answered, row_filled, numbered}
+use Rattle.rules.specs.RuleLaws.{length_published}
+use Rattle.rules.proofs.Turns.{draws_front}
 use Rattle.rules.proofs.published.PublishedLineRule.fill.Goals as goal
 
 in_range : (a m : ℕ) → published_serves a m ≡ true → (4 ≤ m) × (m ≤ 256)

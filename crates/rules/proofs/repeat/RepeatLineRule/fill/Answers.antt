@@ -2,7 +2,8 @@ use Rattle.std.proofs.Common.{◌≡◌, ◌-◌, ◌%◌, true, leb, ◌++◌, 
 use Rattle.std.proofs.lemmas.Bool.{le-leb}
 use Rattle.rules.specs.Filling.{single}
 use Rattle.rules.specs.Repeats.{repeat_serves}
-use Rattle.rules.specs.Rows.{length-single, row_answered, row_filled, numbered}
+use Rattle.rules.specs.RuleLaws.{length-single}
+use Rattle.rules.proofs.Rows.{row_answered, row_filled, numbered}
 use Rattle.rules.proofs.repeat.RepeatLineRule.fill.Goals as goal
 
 pub returns : goal.returns

@@ -1,17 +1,8 @@
 -- Rows that stand under a test. Assumes nothing.
-use Rattle.std.specs.Prelude.{◌≡◌, ℕ, ◌≤◌, Bool, true, false, ◌&&◌, List, ◌++◌, length, drop, replicate, Some, Ok, nat_le}
-use Rattle.std.proofs.Common.{sym, ap, ◌∙◌, arith}
-use Rattle.std.proofs.lemmas.List.{length-set, length-replicate}
+use Rattle.std.specs.Prelude.{◌≡◌, ℕ, ◌≤◌, Bool, true, ◌&&◌, List, ◌++◌, length, drop, Ok, nat_le}
 use Rattle.std.proofs.lemmas.Bool.{le-leb, and_from}
 use Rattle.coding.specs.Rows.{Row}
-use Rattle.rules.specs.Filling.{row_if, single, answered, filled}
-
-pub length-single : (m k : ℕ) → length (single m k) ≡ m
-length-single m k = length-set (replicate m false) k true ∙ length-replicate m false
-
-pub row_if-whole : (t : Bool) (row : Row) (m : ℕ) → length row ≡ m → (marks : Row) → row_if t row ≡ Some marks → length marks ≡ m
-row_if-whole true row m h marks e = let same : row ≡ marks = cc in ap length (sym same) ∙ h
-row_if-whole false row m h marks e = let z : ◌≡◌ {A = ℕ} 0 1 = cc in absurd (omega arith)
+use Rattle.rules.specs.Filling.{row_if, answered, filled}
 
 -- a list that is long enough, and a row that is there
 pub row_answered : (t u : Bool) (row : Row) → t ≡ true → u ≡ true → Ok tt ≡ answered t (row_if u row)

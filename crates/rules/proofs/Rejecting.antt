@@ -11,7 +11,7 @@ use Rattle.std.proofs.lemmas.Nat.{mod_below}
 use Rattle.std.proofs.lemmas.Bool.{cases_Bool, or_cases, and_parts, eqb-true, eq-eqb, ltb-false, ltb-true, lt-ltb, cond-true, cond-false, both_ways}
 use Rattle.rules.specs.Draws.{bit, step, one_of, powers, width, within}
 use Rattle.rules.specs.Bound.{rejected}
-use Rattle.rules.specs.Steps.{fed, fed_below}
+use Rattle.rules.proofs.Steps.{fed, fed_below}
 
 -- ## Two values in a row that fall out
 

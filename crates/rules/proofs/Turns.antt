@@ -1,13 +1,11 @@
 -- What a turn of the loops does. Assumes nothing.
-use Rattle.std.specs.Prelude.{◌≡◌, ℕ, zero, suc, ◌-◌, ◌/◌, ◌%◌, ◌^◌, ◌<◌, ◌≤◌, Bool, true, false, List, ◌++◌, length, replicate, nat_le, slice_set, refl}
+use Rattle.std.specs.Prelude.{◌≡◌, ℕ, zero, suc, ◌%◌, ◌^◌, ◌<◌, ◌≤◌, Bool, true, false, List, ◌++◌, length, slice_set, refl}
 use Rattle.std.proofs.Common.{sym, ap, ◌∙◌, ⊎_elim, arith}
-use Rattle.std.proofs.lemmas.List.{length-set, length-replicate, set-append_left}
-use Rattle.std.proofs.lemmas.Bool.{cases_Bool, cond-true, cond-false, cond_both, ltb-true, lt-ltb, le-ltb}
-use Rattle.rules.specs.Draws.{step, width, within, draw, drawn, draws, seed, published_marks}
+use Rattle.std.proofs.lemmas.List.{length-set, set-append_left}
+use Rattle.std.proofs.lemmas.Bool.{cases_Bool, cond-true, cond-false, ltb-true, lt-ltb, le-ltb}
+use Rattle.rules.specs.Draws.{step, width, within, draw, drawn, draws}
 use Rattle.rules.specs.Bound.{rejected}
-use Rattle.rules.specs.Filling.{single}
-use Rattle.rules.specs.Rows.{length-single}
-use Rattle.rules.specs.Rejecting.{few, few_after, step_below, rejected_in, rejected_out}
+use Rattle.rules.proofs.Rejecting.{few, few_after, step_below, rejected_in, rejected_out}
 
 pub draw_in : (most m x : ℕ) → within m (step x) ≡ true → draw (suc most) m x ≡ step x
 unfolding draw
@@ -86,11 +84,6 @@ pub draws_more : (count m x : ℕ) (marks : List Bool) → draws (suc count) m x
 unfolding draws
 draws_more count m x marks = refl
 
-pub length-draws : (count m x : ℕ) (marks : List Bool) → length (draws count m x marks) ≡ length marks
-unfolding draws
-length-draws zero m x marks = refl
-length-draws (suc count) m x marks = length-draws count m (drawn m x) (slice_set marks (drawn m x % width m) true) ∙ length-set marks (drawn m x % width m) true
-
 -- what stands behind the row stays
 pub draws_front : (count m x : ℕ) (marks rest : List Bool) → 4 ≤ m → m ≤ 256 → x < 2 ^ 24 → length marks ≡ m → draws count m x (marks ++ rest) ≡ draws count m x marks ++ rest
 unfolding draws
@@ -98,12 +91,6 @@ draws_front zero m x marks rest h4 h below long = refl
 draws_front (suc count) m x marks rest h4 h below long =
     ap (draws count m (drawn m x)) (set-append_left marks rest (drawn m x % width m) true (omega (arith, drawn_within m x h4 h below)))
     ∙ draws_front count m (drawn m x) (slice_set marks (drawn m x % width m) true) rest h4 h (drawn_below m x below) (length-set marks (drawn m x % width m) true ∙ long)
-
-pub length_published : (m n : ℕ) → length (published_marks m n) ≡ m
-length_published m n =
-    cond_both (nat_le n m) (single m (n - 1)) (draws (m / 2) m (seed m n) (replicate m false)) (λ row. length row ≡ m)
-    (λ _. length-single m (n - 1))
-    (λ _. length-draws (m / 2) m (seed m n) (replicate m false) ∙ length-replicate m false)
 
 -- ## The code's test of a value y, the next of x
 
