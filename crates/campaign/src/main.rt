@@ -1,12 +1,13 @@
 // Packs a pitch table into a block, cuts it into fragments, and prints them with spare ones of the published rule.
 #![tactic(auto)]
 
+mod fault;
 mod options;
 mod report;
 
-use anyhow::anyhow;
 use cutting::coder::code_into;
 use cutting::layout::{Layout, layout_of};
+use fault::Fault;
 use options::read_options;
 use pitch::pack::pack;
 use pitch_text::text::read_table;
@@ -20,17 +21,17 @@ use std::process::ExitCode;
 const ALGO: u8 = 0;
 
 // The block of the table in a file.
-fn block_of(rt: &HostRuntime, path: &str) -> anyhow::Result<Vec<u8>> {
+fn block_of(rt: &HostRuntime, path: &str) -> Result<Vec<u8>, Fault> {
     let heap = rt.alloc();
     let Ok(text) = fs::read(rt, path) else {
-        return Err(anyhow!(format!(in heap; "{path}: cannot be read")?));
+        return Err(Fault::Refused(format!(in heap; "{path}: cannot be read")?));
     };
     let table = match read_table(heap, text.as_slice()) {
         Ok(table) => table,
-        Err(fault) => return Err(anyhow!(format!(in heap; "{path}: {fault}")?)),
+        Err(fault) => return Err(Fault::Refused(format!(in heap; "{path}: {fault}")?)),
     };
     let Ok(block) = pack(heap, &table) else {
-        return Err(anyhow!("no memory for the block"));
+        return Err(Fault::Said("no memory for the block"));
     };
     let millimetres = table.entries.len();
     let axis = table.axis;
@@ -42,20 +43,20 @@ fn block_of(rt: &HostRuntime, path: &str) -> anyhow::Result<Vec<u8>> {
 }
 
 // How the block is cut, or why it cannot be.
-fn plan(rt: &HostRuntime, length: usize, size: u8) -> anyhow::Result<Layout> {
+fn plan(rt: &HostRuntime, length: usize, size: u8) -> Result<Layout, Fault> {
     let heap = rt.alloc();
     let layout = match u32::try_from(length) {
         Ok(length) => layout_of(length, size),
         Err(_) => None,
     };
     let Some(layout) = layout else {
-        return Err(anyhow!(format!(in heap;
+        return Err(Fault::Refused(format!(in heap;
             "{length} bytes are more than 256 fragments of {size} bytes: choose a larger size"
         )?));
     };
     let m = layout.fragments;
     if !Published.serves(ALGO, m) {
-        return Err(anyhow!(format!(in heap;
+        return Err(Fault::Refused(format!(in heap;
             "{m} fragments of {size} bytes are too few for the published rule: choose a smaller size"
         )?));
     }
@@ -65,7 +66,7 @@ fn plan(rt: &HostRuntime, length: usize, size: u8) -> anyhow::Result<Layout> {
 }
 
 // Prints fragment n.
-fn print_fragment(rt: &HostRuntime, block: &[u8], m: u16, size: u8, n: u16) -> anyhow::Result<()> {
+fn print_fragment(rt: &HostRuntime, block: &[u8], m: u16, size: u8, n: u16) -> Result<(), Fault> {
     let mut marks = [false; 256];
     let mut bytes = [0u8; 239];
     let len = usize::from(m).min(marks.len());
@@ -73,7 +74,7 @@ fn print_fragment(rt: &HostRuntime, block: &[u8], m: u16, size: u8, n: u16) -> a
     if Published.fill(ALGO, m, n, &mut marks).is_err()
         || code_into(block, s, &marks[0..len], &mut bytes).is_err()
     {
-        return Err(anyhow!("no such fragment"));
+        return Err(Fault::Said("no such fragment"));
     }
     let hex = Hex(&bytes[0..s]);
     if n <= m {
@@ -85,7 +86,7 @@ fn print_fragment(rt: &HostRuntime, block: &[u8], m: u16, size: u8, n: u16) -> a
     Ok(())
 }
 
-fn run(rt: &HostRuntime) -> anyhow::Result<()> {
+fn run(rt: &HostRuntime) -> Result<(), Fault> {
     let options = read_options(rt)?;
     let block = block_of(rt, options.table.as_str())?;
     let size = options.size;
@@ -94,7 +95,7 @@ fn run(rt: &HostRuntime) -> anyhow::Result<()> {
     let last = m.saturating_add(options.spares);
     if last > LAST {
         let most = LAST.saturating_sub(m);
-        return Err(anyhow!(format!(in rt.alloc();
+        return Err(Fault::Refused(format!(in rt.alloc();
             "a block of {m} fragments has at most {most} to spare"
         )?));
     }

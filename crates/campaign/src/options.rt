@@ -1,5 +1,5 @@
 // What the program is asked for on its command line: TABLE [SIZE [SPARES]].
-use anyhow::anyhow;
+use crate::fault::Fault;
 use coding::LARGEST_FRAGMENT;
 use std::env;
 
@@ -20,11 +20,11 @@ const SIZE: u8 = 48;
 const SPARES: u16 = 8;
 
 /// The options, or how to give them.
-pub(crate) fn read_options(rt: &HostRuntime) -> anyhow::Result<Options> {
+pub(crate) fn read_options(rt: &HostRuntime) -> Result<Options, Fault> {
     let mut args = env::args(rt)?;
     let _ = args.next();
     let Some(table) = args.next() else {
-        return Err(anyhow!(USAGE));
+        return Err(Fault::Said(USAGE));
     };
     let size = match args.next() {
         Some(text) => text.as_str().parse::<u8>(),
@@ -35,10 +35,10 @@ pub(crate) fn read_options(rt: &HostRuntime) -> anyhow::Result<Options> {
         None => Ok(SPARES),
     };
     let (Ok(size), Ok(spares), None) = (size, spares, args.next()) else {
-        return Err(anyhow!(USAGE));
+        return Err(Fault::Said(USAGE));
     };
     if size == 0 || size > LARGEST_FRAGMENT {
-        return Err(anyhow!(USAGE));
+        return Err(Fault::Said(USAGE));
     }
     Ok(Options {
         table,
