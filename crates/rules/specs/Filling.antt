@@ -1,5 +1,5 @@
 -- What a line rule answers, and what it leaves in the list of marks. Assumes nothing.
-use Rattle.std.specs.Prelude.{ℕ, Bool, true, false, List, ◌++◌, length, drop, replicate, Some, None, Ok, Err, Option, Result, slice_set}
+use Rattle.std.specs.Prelude.{ℕ, Bool, true, false, List, ◌++◌, length, drop, replicate, Some, None, Ok, Err, codes, Option, Result, slice_set}
 use Rattle.coding.specs.Rows.{Row}
 use Rattle.rules.specs.declared.line_rule.RowFault.{RowFault}
 use Rattle.rules.specs.declared.line_rule.RowFault.TheVariants.{Short, NoRow}
@@ -7,6 +7,11 @@ use Rattle.rules.specs.declared.line_rule.RowFault.TheVariants.{Short, NoRow}
 -- the last fragment number that can have a row: N has 14 bits
 abbrev pub last_number : ℕ
 last_number = 16383
+
+-- the word for a fault
+abbrev pub fault_text : RowFault → List ℕ
+fault_text Short = codes "short"
+fault_text NoRow = codes "none"
 
 -- the answer, where the test says whether the list is long enough
 abbrev pub answered : Bool → Option Row → Result (Unit {0}) RowFault

@@ -3,3 +3,4 @@ pub mod Repeats
 pub mod Draws
 pub mod Bound
 pub mod RuleLaws
+pub mod Places

@@ -3,5 +3,6 @@
 
 pub mod line_rule;
 mod marks;
+pub mod places;
 pub mod published;
 pub mod repeat;

@@ -1,7 +1,9 @@
 // What a line rule means, and what it answers.
 ghost use Rattle.std.specs.Prelude.{◌≡◌, ℕ, ◌<◌, Bool, false, length, Some, None, Option, nat_le};
 ghost use Rattle.coding.specs.Rows.{Row, IsRow};
-ghost use Rattle.rules.specs.Filling.{last_number, answered, filled};
+ghost use Rattle.rules.specs.Filling.{last_number, answered, filled, fault_text};
+
+use std::fmt;
 
 /// Why a list of marks was left as it was.
 #[derive(Clone, Copy, PartialEq, Eq, Debug)]
@@ -10,6 +12,17 @@ pub enum RowFault {
     Short,
     /// The pair is not served, or the number has no row.
     NoRow,
+}
+
+impl fmt::Display for RowFault {
+    ghost output = { λ f. Some (fault_text f) };
+
+    fn fmt<W: fmt::Write>(&self, f: &mut fmt::Formatter<W>) -> fmt::Result {
+        match self {
+            RowFault::Short => write!(f, "short"),
+            RowFault::NoRow => write!(f, "none"),
+        }
+    }
 }
 
 /// The last fragment number that can have a row: N has 14 bits.
