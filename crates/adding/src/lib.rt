@@ -74,27 +74,28 @@ impl Element for u8 {
     }
 }
 
-// Adds the first n places, as many as the shorter list has.
-fn add_front<E: Element>(a: &mut [E], b: &[E], n: usize)
-    requires { n ≡ min (length a.old) (length b.now) }
-    ensures places { a.new ≡ added E.sum a.old b.now }
-    ensures equal { length a.old ≡ length b.now → a.new ≡ total E.sum a.old b.now }
-    ensures back { added E.sum a.new b.now ≡ a.old }
+// Adds a list into one of its length.
+fn add_each<E: Element>(a: &mut [E], b: &[E])
+    requires { length a.old ≡ length b.now }
+    ensures whole { a.new ≡ total E.sum a.old b.now }
+    ensures back { total E.sum a.new b.now ≡ a.old }
 {
-    for i in 0..n {
-        a[i] = a[i].plus(b[i]);
+    // Kept: `b[i]`, since no proof knows what a `zip` over `iter_mut` leaves in the list.
+    for (i, x) in a.iter_mut().enumerate() {
+        *x = x.plus(b[i]);
     }
 }
 
 /// Adds `b` into `a` place by place. Where `b` is shorter the rest of `a` stays; where it is longer its rest does not count.
 /// Lists of one length become their sum. Adding `b` once more would give `a` back.
+#[tactic(auto, using(crate::proofs::Turns::front_added, crate::proofs::Turns::front_back))]
 pub fn add_into<E: Element>(a: &mut [E], b: &[E])
     ensures places { a.new ≡ added E.sum a.old b.now }
     ensures equal { length a.old ≡ length b.now → a.new ≡ total E.sum a.old b.now }
     ensures back { added E.sum a.new b.now ≡ a.old }
 {
     let n = a.len().min(b.len());
-    add_front(a, b, n);
+    add_each(&mut a[..n], &b[..n]);
 }
 
 #[cfg(test)]
