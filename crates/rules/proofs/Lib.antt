@@ -1,5 +1,3 @@
-pub mod Fronts
-pub mod Rows
 pub mod Rejecting
 pub mod Steps
 pub mod Turns

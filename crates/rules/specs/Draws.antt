@@ -2,7 +2,7 @@
 use Rattle.std.specs.Prelude.{ℕ, zero, suc, ◌+◌, ◌-◌, ◌*◌, ◌/◌, ◌%◌, ◌^◌, Bool, true, false, cond, ◌&&◌, ◌||◌, List, [], ◌∷◌, replicate, Option, ◌==◌, bit_xor, nat_le, nat_lt, slice_set}
 use Rattle.coding.specs.Rows.{Row}
 use Rattle.coding.specs.Blocks.{most_fragments}
-use Rattle.rules.specs.Filling.{last_number, row_if, single}
+use Rattle.rules.specs.Filling.{row_if, numbered, single}
 
 -- bit k of x, bit 0 the lowest
 abbrev pub bit : ℕ → ℕ → ℕ
@@ -53,4 +53,4 @@ abbrev pub published_marks : ℕ → ℕ → Row
 published_marks m n = cond (nat_le n m) (single m (n - 1)) (draws (m / 2) m (seed m n) (replicate m false))
 
 abbrev pub published_row : ℕ → ℕ → ℕ → Option Row
-published_row a m n = row_if (published_serves a m && nat_le 1 n && nat_le n last_number) (published_marks m n)
+published_row a m n = row_if (numbered (published_serves a m) n) (published_marks m n)

@@ -1,5 +1,5 @@
 -- What a line rule answers, and what it leaves in the list of marks. Assumes nothing.
-use Rattle.std.specs.Prelude.{ℕ, Bool, true, false, List, ◌++◌, length, drop, replicate, Some, None, Ok, Err, codes, Option, Result, slice_set}
+use Rattle.std.specs.Prelude.{ℕ, Bool, true, false, ◌&&◌, List, ◌++◌, length, drop, replicate, Some, None, Ok, Err, codes, Option, Result, nat_le, slice_set}
 use Rattle.coding.specs.Rows.{Row}
 use Rattle.rules.specs.declared.line_rule.RowFault.{RowFault}
 use Rattle.rules.specs.declared.line_rule.RowFault.TheVariants.{Short, NoRow}
@@ -24,6 +24,16 @@ abbrev pub filled : Bool → Option Row → List Bool → List Bool
 filled false row marks = marks
 filled true None marks = marks
 filled true (Some row) marks = row ++ drop (length row) marks
+
+-- how long the row is, where the first test says whether there is room for it, and the second whether there is one
+abbrev pub length_if : Bool → Bool → ℕ → Result ℕ RowFault
+length_if false row m = Err Short
+length_if true false m = Err NoRow
+length_if true true m = Ok m
+
+-- whether number n has a row, where the pair is served
+abbrev pub numbered : Bool → ℕ → Bool
+numbered served n = served && nat_le 1 n && nat_le n last_number
 
 -- the row, where the test passes
 abbrev pub row_if : Bool → Row → Option Row

@@ -4,7 +4,7 @@ use Rattle.std.proofs.Common.{sym, ap, ◌∙◌, arith, rules}
 use Rattle.std.proofs.lemmas.List.{length-set, length-replicate}
 use Rattle.std.proofs.lemmas.Bool.{cond_both}
 use Rattle.coding.specs.Rows.{Row}
-use Rattle.rules.specs.Filling.{last_number, row_if, single}
+use Rattle.rules.specs.Filling.{last_number, row_if, numbered, single}
 use Rattle.rules.specs.Draws.{width, drawn, draws, seed, published_serves, published_row, published_marks}
 use Rattle.rules.specs.Repeats.{repeat_serves, repeat_row}
 
@@ -24,32 +24,38 @@ length_published m n =
     (λ _. length-single m (n - 1))
     (λ _. length-draws (m / 2) m (seed m n) (replicate m false) ∙ length-replicate m false)
 
-pub row_if_whole : (t : Bool) (row : Row) (m : ℕ) → length row ≡ m → (marks : Row) → row_if t row ≡ Some marks → length marks ≡ m
-row_if_whole true row m h marks e = let same : row ≡ marks = cc in ap length (sym same) ∙ h
-row_if_whole false row m h marks e = let z : ◌≡◌ {A = ℕ} 0 1 = cc in absurd (omega arith)
+-- ## The laws, of a rule that has a row where the pair is served and the number can have one
 
--- ## The laws
+pub unserved : (served : Bool) (n : ℕ) (row : Row) → served ≡ false → row_if (numbered served n) row ≡ None
+unserved = search rules
+
+pub beyond : (served : Bool) (n : ℕ) (row : Row) → last_number < n → row_if (numbered served n) row ≡ None
+beyond = search rules
+
+pub whole : (t : Bool) (row : Row) (m : ℕ) → length row ≡ m → (marks : Row) → row_if t row ≡ Some marks → length marks ≡ m
+whole true row m h marks e = let same : row ≡ marks = cc in ap length (sym same) ∙ h
+whole false row m h marks e = let z : ◌≡◌ {A = ℕ} 0 1 = cc in absurd (omega arith)
 
 pub published_algorithms : (a m : ℕ) → 7 < a → published_serves a m ≡ false
 published_algorithms = search rules
 
 pub published_unserved : (a m n : ℕ) → published_serves a m ≡ false → published_row a m n ≡ None
-published_unserved = search rules
+published_unserved a m n = unserved (published_serves a m) n (published_marks m n)
 
 pub published_beyond : (a m n : ℕ) → last_number < n → published_row a m n ≡ None
-published_beyond = search rules
+published_beyond a m n = beyond (published_serves a m) n (published_marks m n)
 
 pub published_whole : (a m n : ℕ) (marks : Row) → published_row a m n ≡ Some marks → length marks ≡ m
-published_whole a m n marks e = row_if_whole _ (published_marks m n) m (length_published m n) marks e
+published_whole a m n = whole (numbered (published_serves a m) n) (published_marks m n) m (length_published m n)
 
 pub repeat_algorithms : (a m : ℕ) → 7 < a → repeat_serves a m ≡ false
 repeat_algorithms = search rules
 
 pub repeat_unserved : (a m n : ℕ) → repeat_serves a m ≡ false → repeat_row a m n ≡ None
-repeat_unserved = search rules
+repeat_unserved a m n = unserved (repeat_serves a m) n (single m ((n - 1) % m))
 
 pub repeat_beyond : (a m n : ℕ) → last_number < n → repeat_row a m n ≡ None
-repeat_beyond = search rules
+repeat_beyond a m n = beyond (repeat_serves a m) n (single m ((n - 1) % m))
 
 pub repeat_whole : (a m n : ℕ) (marks : Row) → repeat_row a m n ≡ Some marks → length marks ≡ m
-repeat_whole a m n marks e = row_if_whole _ _ m (length-single m ((n - 1) % m)) marks e
+repeat_whole a m n = whole (numbered (repeat_serves a m) n) (single m ((n - 1) % m)) m (length-single m ((n - 1) % m))

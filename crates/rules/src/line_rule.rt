@@ -1,7 +1,7 @@
 // What a line rule means, and what it answers.
-ghost use Rattle.std.specs.Prelude.{◌≡◌, ℕ, ◌<◌, Bool, false, length, Some, None, Option, nat_le};
+ghost use Rattle.std.specs.Prelude.{◌≡◌, ℕ, ◌<◌, Bool, ◌&&◌, false, length, Some, None, Option, nat_le};
 ghost use Rattle.coding.specs.Rows.{Row, IsRow};
-ghost use Rattle.rules.specs.Filling.{last_number, answered, filled, fault_text};
+ghost use Rattle.rules.specs.Filling.{last_number, answered, filled, length_if, numbered, fault_text};
 
 use std::fmt;
 
@@ -27,6 +27,20 @@ impl fmt::Display for RowFault {
 
 /// The last fragment number that can have a row: N has 14 bits.
 pub const LAST: u16 = 16383;
+
+// How long the row of number n is in a list of `room` marks, or why there is none; `served` says whether the pair is.
+pub(crate) fn row_length(served: bool, m: u16, n: u16, room: usize) -> Result<usize, RowFault>
+    ensures { result ≡ length_if (nat_le m room) (numbered served n) m }
+{
+    let len = usize::from(m);
+    if room < len {
+        return Err(RowFault::Short);
+    }
+    if !served || n == 0 || n > LAST {
+        return Err(RowFault::NoRow);
+    }
+    Ok(len)
+}
 
 /// A line rule: which pairs of FragAlgo and M (NbFrag) it serves, and for a served pair and each fragment number N a row of M marks or none.
 /// Its answers follow that meaning each time, and asking changes nothing.

@@ -1,22 +1,12 @@
-// Filling the front of a list of marks.
-ghost use Rattle.std.specs.Prelude.{◌≡◌, ◌<◌, ◌≤◌, false, ◌++◌, length, drop, replicate};
+// Filling a row.
+ghost use Rattle.std.specs.Prelude.{◌≡◌, ◌<◌, length};
 ghost use Rattle.rules.specs.Filling.{single};
 
-// Sets the first m places to no.
-pub(crate) fn clear(marks: &mut [bool], m: usize)
-    requires { m ≤ length marks.old }
-    ensures { marks.new ≡ replicate m false ++ drop m marks.old }
+// Sets each mark to no, but for the one at place k.
+pub(crate) fn only(row: &mut [bool], k: usize)
+    requires { k < length row.old }
+    ensures { row.new ≡ single (length row.old) k }
 {
-    for i in 0..m {
-        marks[i] = false;
-    }
-}
-
-// Sets the first m places to no, but for place k.
-pub(crate) fn only(marks: &mut [bool], m: usize, k: usize)
-    requires { (m ≤ length marks.old) × (k < m) }
-    ensures { marks.new ≡ single m k ++ drop m marks.old }
-{
-    clear(marks, m);
-    marks[k] = true;
+    row.fill(false);
+    row[k] = true;
 }

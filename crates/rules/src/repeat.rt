@@ -3,7 +3,7 @@ ghost use Rattle.std.specs.Prelude.{◌≡◌, ◌-◌, ◌%◌, ◌≤◌};
 ghost use Rattle.rules.specs.Repeats.{repeat_serves, repeat_row};
 ghost use Rattle.rules.specs.RuleLaws.{repeat_algorithms, repeat_unserved, repeat_beyond, repeat_whole};
 
-use crate::line_rule::{LAST, LineRule, RowFault};
+use crate::line_rule::{LineRule, RowFault, row_length};
 use crate::marks::only;
 use coding::MOST_FRAGMENTS;
 
@@ -33,18 +33,12 @@ impl LineRule for Repeat {
     ghost whole = { λ _. repeat_whole };
 
     fn serves(&self, algo: u8, m: u16) -> bool {
-        algo == 7 && 1 <= m && m <= MOST_FRAGMENTS
+        algo == 7 && (1..=MOST_FRAGMENTS).contains(&m)
     }
 
     fn fill(&self, algo: u8, m: u16, n: u16, marks: &mut [bool]) -> Result<(), RowFault> {
-        let len = usize::from(m);
-        if marks.len() < len {
-            return Err(RowFault::Short);
-        }
-        if !self.serves(algo, m) || n == 0 || n > LAST {
-            return Err(RowFault::NoRow);
-        }
-        only(marks, len, usize::from(place(m, n)));
+        let len = row_length(self.serves(algo, m), m, n, marks.len())?;
+        only(&mut marks[..len], usize::from(place(m, n)));
         Ok(())
     }
 }
