@@ -11,17 +11,18 @@ use adding::add_into;
 pub struct Short;
 
 // Makes `part` the sum of the fragments of its length that are marked, summed in place.
+#[tactic(auto, using(crate::proofs::Turns::left_no, crate::proofs::Turns::left_yes, crate::proofs::Turns::left_none, crate::proofs::Turns::from_zeros))]
 fn sum_marked(part: &mut [u8], block: &[u8], marks: &[bool])
     ensures { part.new ≡ coded (length part.old) marks.now (cut (length marks.now) (length part.old) block.now) }
 {
     part.fill(0);
     let mut rest = block;
-    for i in 0..marks.len() {
-        let n = part.len().min(rest.len());
-        if marks[i] {
-            add_into(part, &rest[0..n]);
+    for marked in marks {
+        let (fragment, more) = rest.split_at(part.len().min(rest.len()));
+        if *marked {
+            add_into(part, fragment);
         }
-        rest = &rest[n..];
+        rest = more;
     }
 }
 
@@ -34,7 +35,7 @@ pub fn code_into(block: &[u8], size: usize, marks: &[bool], out: &mut [u8]) -> R
     if out.len() < size {
         return Err(Short);
     }
-    sum_marked(&mut out[0..size], block, marks);
+    sum_marked(&mut out[..size], block, marks);
     Ok(())
 }
 

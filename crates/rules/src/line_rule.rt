@@ -1,5 +1,5 @@
 // What a line rule means, and what it answers.
-ghost use Rattle.std.specs.Prelude.{◌≡◌, ℕ, ◌<◌, Bool, ◌&&◌, false, length, Some, None, Option, nat_le};
+ghost use Rattle.std.specs.Prelude.{◌≡◌, ℕ, ◌<◌, Bool, false, length, Some, None, Option, nat_le};
 ghost use Rattle.coding.specs.Rows.{Row, IsRow};
 ghost use Rattle.rules.specs.Filling.{last_number, answered, filled, length_if, numbered, fault_text};
 
