@@ -13,6 +13,7 @@ pub struct Layout {
 
 /// The layout of a block of `length` bytes in fragments of `size` bytes. None where the size is not 1–239, where the block has no byte, and
 /// where it wants more than 256 fragments.
+#[tactic(auto, using(crate::proofs::Rounding::ceil_is))]
 pub fn layout_of(length: u32, size: u8) -> Option<Layout>
     ensures answer { result ≡ layout_of length size }
     ensures exact { Exact length size result }
@@ -21,7 +22,7 @@ pub fn layout_of(length: u32, size: u8) -> Option<Layout>
         return None;
     }
     let s = u32::from(size);
-    let m = (length - 1) / s + 1;
+    let m = length.div_ceil(s);
     if m > u32::from(MOST_FRAGMENTS) {
         return None;
     }
