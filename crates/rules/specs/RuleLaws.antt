@@ -1,6 +1,6 @@
 -- The laws of a line rule, kept by `Published` and by `Repeat`. Assumes nothing.
 use Rattle.std.specs.Prelude.{◌≡◌, ℕ, zero, suc, ◌-◌, ◌/◌, ◌%◌, ◌<◌, Bool, true, false, List, length, replicate, Some, None, nat_le, slice_set, refl}
-use Rattle.std.proofs.Common.{sym, ap, ◌∙◌, arith, rules}
+use Rattle.std.proofs.Common.{◌∙◌, rules}
 use Rattle.std.proofs.lemmas.List.{length-set, length-replicate}
 use Rattle.std.proofs.lemmas.Bool.{cond_both}
 use Rattle.coding.specs.Rows.{Row}
@@ -32,9 +32,9 @@ unserved = search rules
 pub beyond : (served : Bool) (n : ℕ) (row : Row) → last_number < n → row_if (numbered served n) row ≡ None
 beyond = search rules
 
-pub whole : (t : Bool) (row : Row) (m : ℕ) → length row ≡ m → (marks : Row) → row_if t row ≡ Some marks → length marks ≡ m
-whole true row m h marks e = let same : row ≡ marks = cc in ap length (sym same) ∙ h
-whole false row m h marks e = let z : ◌≡◌ {A = ℕ} 0 1 = cc in absurd (omega arith)
+pub row_if_whole : (t : Bool) (row : Row) (m : ℕ) → length row ≡ m → (marks : Row) → row_if t row ≡ Some marks → length marks ≡ m
+row_if_whole true row m h marks e = cc
+row_if_whole false row m h marks e = cc
 
 pub published_algorithms : (a m : ℕ) → 7 < a → published_serves a m ≡ false
 published_algorithms = search rules
@@ -46,7 +46,7 @@ pub published_beyond : (a m n : ℕ) → last_number < n → published_row a m n
 published_beyond a m n = beyond (published_serves a m) n (published_marks m n)
 
 pub published_whole : (a m n : ℕ) (marks : Row) → published_row a m n ≡ Some marks → length marks ≡ m
-published_whole a m n = whole (numbered (published_serves a m) n) (published_marks m n) m (length_published m n)
+published_whole a m n = row_if_whole (numbered (published_serves a m) n) (published_marks m n) m (length_published m n)
 
 pub repeat_algorithms : (a m : ℕ) → 7 < a → repeat_serves a m ≡ false
 repeat_algorithms = search rules
@@ -58,4 +58,4 @@ pub repeat_beyond : (a m n : ℕ) → last_number < n → repeat_row a m n ≡ N
 repeat_beyond a m n = beyond (repeat_serves a m) n (single m ((n - 1) % m))
 
 pub repeat_whole : (a m n : ℕ) (marks : Row) → repeat_row a m n ≡ Some marks → length marks ≡ m
-repeat_whole a m n = whole (numbered (repeat_serves a m) n) (single m ((n - 1) % m)) m (length-single m ((n - 1) % m))
+repeat_whole a m n = row_if_whole (numbered (repeat_serves a m) n) (single m ((n - 1) % m)) m (length-single m ((n - 1) % m))

@@ -1,5 +1,6 @@
 -- Worked cases of the published rule and of elimination, in one table that is computed over the definitions. Assumes nothing.
-use Rattle.std.specs.Prelude.{◌≡◌, ℕ, zero, suc, ◌-◌, ◌%◌, Bool, true, false, cond, ◌&&◌, List, [], ◌∷◌, length, replicate, is_some, Some, None, Option, ◌==◌, slice_set}
+use Rattle.std.specs.Prelude.{◌≡◌, ℕ, zero, suc, ◌-◌, ◌%◌, Bool, true, false, cond, List, [], ◌∷◌, length, replicate, is_some, Some, unwrap_or, Option, ◌==◌, slice_set}
+use Rattle.std.specs.List.{list_all}
 use Rattle.coding.specs.Rows.{Row}
 use Rattle.coding.specs.Blocks.{zeros, xors}
 use Rattle.coding.specs.Lines.{Slot, Slot.empty, missing, Outcome, Outcome.dependent, Outcome.into, arrive, settle}
@@ -54,12 +55,10 @@ register_values (suc count) m x = step x % width m ∷ register_values count m (
 
 -- the row, which a case makes sure is there
 abbrev pub row_or : Option Row → Row
-row_or (Some row) = row
-row_or None = []
+row_or row = unwrap_or row []
 
 abbrev pub all_zero : List ℕ → Bool
-all_zero [] = true
-all_zero (x ∷ xs) = x == 0 && all_zero xs
+all_zero xs = list_all (λ x. x == 0) xs
 
 abbrev pub saying : Outcome (List ℕ) → Said
 saying (dependent q) = cond (all_zero q) known contradicts
