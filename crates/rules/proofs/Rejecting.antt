@@ -114,6 +114,10 @@ halves m x t h4 bad next =
 
 -- ## How many fall out
 
+-- a proof by whether the next value is within
+pub by_next : {P : Type 0} (m x : ℕ) → (within m (step x) ≡ true → P) → (within m (step x) ≡ false → P) → P
+by_next m x here out = ⊎_elim here out (cases_Bool (within m (step x)))
+
 -- 32, doubled j times
 abbrev doubled : ℕ → ℕ
 doubled zero = 32
@@ -135,15 +139,13 @@ rejected_none m x = refl
 run : (most j m x : ℕ) → one_of m powers ≡ true → 4 ≤ m → x < doubled j → within m x ≡ false → rejected most m x ≤ j
 run zero j m x t h4 below bad = omega (arith, rejected_none m x)
 run (suc most) zero m x t h4 below bad =
-    ⊎_elim
+    by_next m x
     (λ e. omega (arith, rejected_in most m x e))
     (λ e. absurd (omega (arith, (halves m x t h4 bad e).1)))
-    (cases_Bool (within m (step x)))
 run (suc most) (suc j) m x t h4 below bad =
-    ⊎_elim
+    by_next m x
     (λ e. omega (arith, rejected_in most m x e))
     (λ e. omega (arith, rejected_out most m x e, run most j m (step x) t h4 (omega (arith, (halves m x t h4 bad e).0)) e))
-    (cases_Bool (within m (step x)))
 
 -- where m is no power of two, no value falls out
 all_in : (m x : ℕ) → one_of m powers ≡ false → 4 ≤ m → within m x ≡ true
@@ -156,14 +158,13 @@ all_in m x t h4 =
 pub few : (most m x : ℕ) → 4 ≤ m → m ≤ 256 → x < 2 ^ 24 → rejected most m x ≤ 20
 few zero m x h4 h below = omega (arith, rejected_none m x)
 few (suc most) m x h4 h below =
-    ⊎_elim
+    by_next m x
     (λ e. omega (arith, rejected_in most m x e))
     (λ e.
     ⊎_elim
     (λ t. omega (arith, rejected_out most m x e, run most 19 m (step x) t h4 (step_below x below) e))
     (λ t. absurd (both_ways (within m (step x)) e (all_in m (step x) t h4)))
     (cases_Bool (one_of m powers)))
-    (cases_Bool (within m (step x)))
 
 -- after a value that fell out at most 19 more do
 pub few_after : (most m x : ℕ) → 4 ≤ m → m ≤ 256 → x < 2 ^ 24 → within m (step x) ≡ false → rejected most m (step x) ≤ 19

@@ -1,9 +1,9 @@
 -- The bound, in the words of the rule. Assumes nothing.
-use Rattle.std.proofs.Common.{◌≡◌, ℕ, zero, suc, ◌%◌, ◌^◌, ◌<◌, ◌≤◌, false, ap, ◌∙◌, ⊎_elim, arith}
-use Rattle.std.proofs.lemmas.Bool.{le-ltb, ltb-true, ltb-false, cases_Bool}
+use Rattle.std.proofs.Common.{◌≡◌, ℕ, zero, suc, ◌%◌, ◌^◌, ◌<◌, ◌≤◌, false, ap, ◌∙◌, arith}
+use Rattle.std.proofs.lemmas.Bool.{le-ltb, ltb-true, ltb-false}
 use Rattle.rules.specs.Draws.{step, width, within, draw, drawn, seed}
 use Rattle.rules.specs.Bound.{RegisterSmall, rejected, reached, after, FewRejected, NoLongRun, DrawsTheFirst}
-use Rattle.rules.proofs.Rejecting.{few, rejected_none, rejected_out}
+use Rattle.rules.proofs.Rejecting.{by_next, few, rejected_none, rejected_out}
 use Rattle.rules.proofs.Turns.{drawn_below, draw_in, draw_out}
 
 reached-below : (count m x : ℕ) → x < 2 ^ 24 → reached count m x < 2 ^ 24
@@ -41,13 +41,12 @@ first : (most m x : ℕ) → rejected most m x < most → (j : ℕ) × First mos
 unfolding after within
 first zero m x h = absurd (omega arith)
 first (suc most) m x h =
-    ⊎_elim
+    by_next m x
     (λ e. (0, (omega arith, draw_in most m x e, ltb-true (step x % width m) m e, λ i lt. absurd (omega arith))))
     (λ e.
     let next = first most m (step x) (omega (arith, rejected_out most m x e)) in
     let out = ltb-false (step x % width m) m e in
     (suc next.0, (omega (arith, next.1.0), draw_out most m x e ∙ next.1.1, next.1.2, before m x next.0 out next.1.3)))
-    (cases_Bool (within m (step x)))
 
 pub draws_the_first : DrawsTheFirst 20
 unfolding drawn

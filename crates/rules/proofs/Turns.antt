@@ -1,10 +1,10 @@
 -- What a turn of the loops does. Assumes nothing.
 use Rattle.std.specs.Prelude.{◌≡◌, ℕ, zero, suc, ◌-◌, ◌%◌, ◌^◌, ◌<◌, ◌≤◌, Bool, true, false, List, slice_set}
-use Rattle.std.proofs.Common.{sym, ap, ◌∙◌, ⊎_elim, arith}
-use Rattle.std.proofs.lemmas.Bool.{cases_Bool, cond-true, cond-false, lt-ltb, le-ltb}
+use Rattle.std.proofs.Common.{sym, ap, ◌∙◌, arith}
+use Rattle.std.proofs.lemmas.Bool.{cond-true, cond-false, lt-ltb, le-ltb}
 use Rattle.rules.specs.Draws.{step, width, within, draw, drawn, draws}
 use Rattle.rules.specs.Bound.{rejected}
-use Rattle.rules.proofs.Rejecting.{few_after, step_below, rejected_in, rejected_out}
+use Rattle.rules.proofs.Rejecting.{by_next, few_after, step_below, rejected_in, rejected_out}
 
 pub draw_in : (most m x : ℕ) → within m (step x) ≡ true → draw (suc most) m x ≡ step x
 unfolding draw
@@ -18,27 +18,24 @@ draw_out most m x t = cond-false (within m (step x)) (step x) (draw most m (step
 draw_enough : (most m x : ℕ) → rejected most m x < most → draw most m x ≡ draw (suc most) m x
 draw_enough zero m x h = absurd (omega arith)
 draw_enough (suc most) m x h =
-    ⊎_elim
+    by_next m x
     (λ e. draw_in most m x e ∙ sym (draw_in (suc most) m x e))
     (λ e. draw_out most m x e ∙ draw_enough most m (step x) (omega (arith, rejected_out most m x e)) ∙ sym (draw_out (suc most) m x e))
-    (cases_Bool (within m (step x)))
 
 rejected_enough : (most m x : ℕ) → rejected most m x < most → rejected most m x ≡ rejected (suc most) m x
 rejected_enough zero m x h = absurd (omega arith)
 rejected_enough (suc most) m x h =
-    ⊎_elim
+    by_next m x
     (λ e. rejected_in most m x e ∙ sym (rejected_in (suc most) m x e))
     (λ e. rejected_out most m x e ∙ ap suc (rejected_enough most m (step x) (omega (arith, rejected_out most m x e))) ∙ sym (rejected_out (suc most) m x e))
-    (cases_Bool (within m (step x)))
 
 draw_below : (most m x : ℕ) → x < 2 ^ 24 → draw most m x < 2 ^ 24
 unfolding draw
 draw_below zero m x h = h
 draw_below (suc most) m x h =
-    ⊎_elim
+    by_next m x
     (λ e. omega (arith, draw_in most m x e, step_below x h))
     (λ e. omega (arith, draw_out most m x e, draw_below most m (step x) (step_below x h)))
-    (cases_Bool (within m (step x)))
 
 pub drawn_below : (m x : ℕ) → x < 2 ^ 24 → drawn m x < 2 ^ 24
 unfolding drawn

@@ -45,6 +45,7 @@ pub(crate) fn row_length(served: bool, m: u16, n: u16, room: usize) -> Result<us
 /// A line rule: which pairs of FragAlgo and M (NbFrag) it serves, and for a served pair and each fragment number N a row of M marks or none.
 /// Its answers follow that meaning each time, and asking changes nothing.
 pub trait LineRule {
+    // Kept: FragAlgo as the wire's number, since any byte may be asked for.
     ghost served: { Self → ℕ → ℕ → Bool };
 
     ghost row: { Self → ℕ → ℕ → ℕ → Option Row };
