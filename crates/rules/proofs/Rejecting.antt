@@ -8,7 +8,7 @@ use Rattle.std.specs.Prelude.{◌≡◌, ℕ, zero, suc, ◌+◌, ◌*◌, ◌/�
 use Rattle.std.proofs.Common.{sym, ap, ◌∙◌, ⊎_elim, arith, mul_left_comm}
 use Rattle.std.proofs.Math.Nat.{div-add-mod, add-mul-mod_self_left}
 use Rattle.std.proofs.lemmas.Nat.{mod_below}
-use Rattle.std.proofs.lemmas.Bool.{cases_Bool, or_cases, and_parts, eqb-true, eq-eqb, ltb-false, ltb-true, lt-ltb, cond-true, cond-false, both_ways}
+use Rattle.std.proofs.lemmas.Bool.{not-true, cases_Bool, or_cases, and_parts, eqb-true, eq-eqb, ltb-false, ltb-true, lt-ltb, cond-true, cond-false, both_ways}
 use Rattle.rules.specs.Draws.{bit, step, one_of, powers, width, within}
 use Rattle.rules.specs.Bound.{rejected}
 use Rattle.rules.proofs.Steps.{fed, fed_below}
@@ -51,11 +51,7 @@ agreeing m x b h k =
 
 -- two tests that cannot both pass
 not_both : (b : Bool) → not b ≡ true → b ≢ true
-not_both b h t = both_ways b (not_true b h) t
-  where
-    not_true : (c : Bool) → not c ≡ true → c ≡ false
-    not_true true e = sym e
-    not_true false e = refl
+not_both b h t = both_ways b (not-true b h) t
 
 odd_not_fed : (m l b : ℕ) → 4 ≤ m → apart m ≡ true → l < 2 → b < 2 → agree m l b ≡ true → (b ≡ 0) × (l ≡ 1)
 odd_not_fed m l b h4 all hl hb t =

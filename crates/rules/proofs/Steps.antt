@@ -1,10 +1,9 @@
 -- The code's bits and tests, and those of the definitions. Assumes nothing.
-use Rattle.std.specs.Prelude.{◌≡◌, ℕ, zero, suc, ◌+◌, ◌*◌, ◌/◌, ◌%◌, ◌<◌, ◌≤◌, Bool, true, false, ◌&&◌, ◌==◌, bit_and, bit_xor, refl}
-use Rattle.std.proofs.Common.{sym, ap, ◌∙◌, arith}
-use Rattle.std.specs.Bool.{beq}
+use Rattle.std.specs.Prelude.{◌≡◌, ℕ, ◌+◌, ◌*◌, ◌/◌, ◌%◌, ◌<◌, ◌≤◌, ◌==◌, bit_and, bit_xor, refl}
+use Rattle.std.proofs.Common.{ap, ◌∙◌, arith}
 use Rattle.std.specs.Int.Count.{ones}
 use Rattle.std.proofs.lemmas.Nat.{and_mask, xor_lt}
-use Rattle.std.proofs.lemmas.Bool.Decides.{Decides-below_and}
+use Rattle.std.proofs.lemmas.Bool.{agree_below_at}
 use Rattle.rules.specs.Draws.{bit, step, one_of, powers}
 
 -- ## The step
@@ -32,26 +31,8 @@ pub step_code : (x : ℕ) → x / 2 + (bit_xor (bit_and x 1) (bit_and (x / 32) 1
 unfolding step fed
 step_code x = omega (arith, fed_code x, fed_below x)
 
--- ## The test for a power of two, at each M
-
-abbrev tests_agree : ℕ → Bool
-tests_agree m = beq (ones m == 1) (one_of m powers)
-
-abbrev all_tests_agree : ℕ → Bool
-all_tests_agree zero = true
-all_tests_agree (suc n) = tests_agree n && all_tests_agree n
-
-beq_true : (a b : Bool) → beq a b ≡ true → a ≡ b
-beq_true true true e = refl
-beq_true true false e = sym e
-beq_true false true e = e
-beq_true false false e = refl
+-- ## The test for a power of two, computed at each M
 
 pub power_test : (m : ℕ) → m ≤ 256 → (ones m == 1) ≡ one_of m powers
 unfolding ones
-power_test m h =
-    let all = Decides-below_and tests_agree (λ k. tests_agree k ≡ true) all_tests_agree (λ k. (λ e. e, λ e. e)) refl (λ _. refl) 257 in
-    beq_true (ones m == 1) (one_of m powers) (all.0 refl m (suc_le h))
-  where
-    suc_le : m ≤ 256 → m < 257
-    suc_le k = omega arith
+power_test m h = agree_below_at (λ k. ones k == 1) (λ k. one_of k powers) 257 m refl (omega arith)
