@@ -49,38 +49,8 @@ fn divisor(m: u16) -> u32
     }
 }
 
-// The places that are drawn, one after another.
-#[derive(Drop)]
-struct Drawing {
-    fragments: u32,
-    divisor: u32,
-    register: Register,
-    ghost served: { (4 ≤ fragments) × (fragments ≤ most_fragments) },
-    ghost divides: { divisor ≡ width fragments },
-}
-
-impl Drawing {
-    // Draws the next place.
-    #[tactic(auto, using(crate::proofs::Turns::drawn_in, crate::proofs::Turns::drawn_out, crate::proofs::Turns::fewer_left))]
-    fn next(&mut self) -> usize
-        ensures place { result ≡ drawn self.old.fragments self.old.register.value % width self.old.fragments }
-        ensures within { result < self.old.fragments }
-        ensures register { self.new.register.value ≡ drawn self.old.fragments self.old.register.value }
-        ensures fragments { self.new.fragments ≡ self.old.fragments }
-    {
-        // It ends, since at most 20 values fall out in a row.
-        'values: loop {
-            self.register = self.register.step();
-            let r = self.register.value % self.divisor;
-            if r < self.fragments {
-                return r as usize;
-            }
-        }
-    }
-}
-
 // Marks what is drawn for the fragment number n.
-#[tactic(auto, using(crate::proofs::Turns::draws_none, crate::proofs::Turns::draws_more))]
+#[tactic(auto, using(crate::proofs::Turns::drawn_in, crate::proofs::Turns::drawn_out, crate::proofs::Turns::fewer_left, crate::proofs::Turns::draws_none, crate::proofs::Turns::draws_more))]
 pub(crate) fn draw(m: u16, n: u16, row: &mut [bool])
     requires served { (4 ≤ m) × (m ≤ most_fragments) }
     requires number { (m < n) × (n ≤ last_number) }
@@ -88,12 +58,18 @@ pub(crate) fn draw(m: u16, n: u16, row: &mut [bool])
     ensures { row.new ≡ draws (m / 2) m (seed m n) (replicate m false) }
 {
     row.fill(false);
-    let mut drawing = Drawing {
-        fragments: u32::from(m),
-        divisor: divisor(m),
-        register: Register::start(m, n),
-    };
-    for _ in 0..m / 2 {
-        row[drawing.next()] = true;
+    let fragments = u32::from(m);
+    let by = divisor(m);
+    let mut register = Register::start(m, n);
+    'draws: for _ in 0..m / 2 {
+        // It ends, since at most 20 values fall out in a row.
+        let r = 'values: loop {
+            register = register.step();
+            let r = register.value % by;
+            if r < fragments {
+                break r;
+            }
+        };
+        row[r as usize] = true;
     }
 }
