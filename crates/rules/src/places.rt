@@ -9,6 +9,7 @@ use std::fmt;
 #[derive(Drop)]
 pub struct Places<'a>(pub &'a [bool]);
 
+// Writes a yes mark as a space and its place, and any other not at all.
 fn write_mark<W: fmt::Write>(f: &mut fmt::Formatter<W>, place: usize, mark: bool) -> fmt::Result
     ensures { WritesOnOk W.write_str_gives f.old result (place_text (place, mark)) f.new }
 {
