@@ -1,14 +1,15 @@
 -- Packing and unpacking. Assumes nothing.
 use Rattle.std.proofs.Common.{◌≡◌, ℕ, zero, suc, ◌+◌, ◌*◌, ◌/◌, ◌%◌, ◌<◌, ◌≤◌, true, eqb, leb, List, [], ◌∷◌, ◌++◌, map, length, get_or, take, drop, Some, Ok, sym, refl, ap, ◌∙◌, arith, w16, to_z, of_z}
 use Rattle.std.specs.List.{range_with_len, flat_map, AllByRecursion as All}
-use Rattle.std.proofs.lemmas.List.FromFn.{map-range_with_len_more, length-map-range_with_len}
+use Rattle.std.specs.Simd.{first_chunks}
+use Rattle.std.proofs.lemmas.List.FromFn.{length-map-range_with_len}
 use Rattle.std.proofs.ByRecursion.{All-more}
 use Rattle.std.proofs.lemmas.Bool.Decides.{nat_tests}
 use Rattle.std.proofs.lemmas.Int.{of_z-to_z}
 use Rattle.pitch.specs.declared.table.Axis.{Axis}
 use Rattle.pitch.specs.declared.table.Axis.TheVariants.{X, Y, Z}
-use Rattle.pitch.specs.Block.{Parts, code, four_of, head_of, block_of, entry_at, entry_of, entries_in, screw_in, count_in, axis_of, headed, parsed}
-use Rattle.std.proofs.lemmas.List.{flat_map_more, take_more, drop_more, drop_all, drop-drop, get_or-drop}
+use Rattle.pitch.specs.Block.{Parts, code, four_of, head_of, block_of, entry_at, entry_of, entry_in, entries_in, screw_in, count_in, axis_of, headed, parsed}
+use Rattle.std.proofs.lemmas.List.{flat_map_more, take_more, drop_more, drop_all, drop-drop, get_or-drop, get_or-take}
 use Rattle.pitch.specs.declared.table.Entry.{Entry}
 
 -- the four bytes of an entry give it again, since its numbers have 16 bits
@@ -25,10 +26,27 @@ joined_next put P head bs cs fs es zs i d same h is new fits old =
     let f : P (get_or es i d) = rw same at fits in
     (new ∙ (rw (old.0, e) (flat_map_more put head (take i es) (get_or es i d) ∙ sym (ap (λ xs. head ++ flat_map put xs) (take_more es i d h')))), All-more P es i d h' old.1 f)
 
--- one more millimetre is unpacked
-pub unpacked : (bs : List ℕ) (xs ys : List Entry) (i : ℕ) (x : Entry) → xs ≡ entries_in bs i → x ≡ entry_at bs i → ys ≡ xs ++ x ∷ [] → ys ≡ entries_in bs (i + 1)
-unpacked bs xs ys i x old at new =
-    new ∙ (rw (old, at) (sym (map-range_with_len_more (entry_at bs) 0 i i (omega arith))))
+-- the millimetres of a block, four bytes at a time
+module _ (bs : List ℕ) where
+  entry_here : (body : List ℕ) (k : ℕ) → body ≡ drop (8 + 4 * k) bs → entry_in (take 4 body) ≡ entry_at bs k
+  entry_here body k e =
+      let at : (j : ℕ) → j < 4 → get_or (take 4 body) j 0 ≡ get_or bs (8 + 4 * k + j) 0 = λ j h. get_or-take 4 body j 0 h ∙ (ap (λ xs. get_or xs j 0) e ∙ get_or-drop (8 + 4 * k) bs j 0) in
+      let a0 : get_or (take 4 body) 0 0 ≡ get_or bs (8 + 4 * k) 0 = at 0 (omega arith) ∙ ap (λ i. get_or bs i 0) (omega arith) in
+      let a1 : get_or (take 4 body) 1 0 ≡ get_or bs (9 + 4 * k) 0 = at 1 (omega arith) ∙ ap (λ i. get_or bs i 0) (omega arith) in
+      let a2 : get_or (take 4 body) 2 0 ≡ get_or bs (10 + 4 * k) 0 = at 2 (omega arith) ∙ ap (λ i. get_or bs i 0) (omega arith) in
+      let a3 : get_or (take 4 body) 3 0 ≡ get_or bs (11 + 4 * k) 0 = at 3 (omega arith) ∙ ap (λ i. get_or bs i 0) (omega arith) in
+      rw (a0, a1, a2, a3)
+
+  entries_from : (body : List ℕ) (k n : ℕ) → body ≡ drop (8 + 4 * k) bs → map entry_in (first_chunks 4 n body) ≡ map (entry_at bs) (range_with_len k n)
+  entries_from body k zero e = refl
+  entries_from body k (suc n) e =
+      let next : drop 4 body ≡ drop (8 + 4 * (k + 1)) bs = ap (drop 4) e ∙ (drop-drop 4 (8 + 4 * k) bs ∙ ap (λ i. drop i bs) (omega arith)) in
+      rw (entry_here body k e, entries_from (drop 4 body) (k + 1) n next)
+
+  pub unpacked : (body : List ℕ) (es : List Entry) (n : ℕ) → body ≡ drop 8 bs → length body ≡ 4 * n → es ≡ map entry_in (first_chunks 4 (length body / 4) body) → es ≡ entries_in bs n
+  unpacked body es n is len all =
+      let count : length body / 4 ≡ n = omega arith in
+      all ∙ rw count (entries_from body 0 n is)
 
 two_bytes : (n : ℕ) → n < 65536 → n % 256 + (n / 256 % 256) * 256 ≡ n
 two_bytes n h = omega arith

@@ -41,6 +41,10 @@ block_of p = head_of p.axis p.screw (length p.entries) ++ flat_map four_of p.ent
 abbrev pub entry_of : ℕ → ℕ → ℕ → ℕ → Entry
 entry_of a b c d = record { forward = to_z w16 (a + b * 256); back = to_z w16 (c + d * 256) }
 
+-- the same, of the four as a list
+abbrev pub entry_in : List ℕ → Entry
+entry_in b = entry_of (slice_index b 0) (slice_index b 1) (slice_index b 2) (slice_index b 3)
+
 -- millimetre i of a block
 abbrev pub entry_at : List ℕ → ℕ → Entry
 entry_at bs i = entry_of (slice_index bs (8 + 4 * i)) (slice_index bs (9 + 4 * i)) (slice_index bs (10 + 4 * i)) (slice_index bs (11 + 4 * i))

@@ -1,7 +1,9 @@
 // A table as a block of bytes: `PT`, the axis, the screw's number, the count, a zero, and four bytes for each millimetre.
-ghost use Rattle.std.specs.Prelude.{◌≡◌, ◌+◌, ◌*◌, ◌≤◌, length, IfOk, Ok, MatchResult, slice_index};
-ghost use Rattle.pitch.specs.declared.pack.PitchFault.TheVariants.{Memory};
-ghost use Rattle.pitch.specs.Block.{code, four_of, head_of, block_of, parts_of, axis_of, entry_at, entry_of, entries_in, parsed, Unpacks};
+ghost use Rattle.std.specs.Prelude.{◌≡◌, ◌/◌, map, length, IfOk, Ok, MatchResult, slice_index};
+ghost use Rattle.std.specs.Option.{ok_or};
+ghost use Rattle.std.specs.Simd.{first_chunks};
+ghost use Rattle.pitch.specs.declared.pack.PitchFault.TheVariants.{Memory, Axis as NoAxis};
+ghost use Rattle.pitch.specs.Block.{code, four_of, head_of, block_of, parts_of, axis_of, entry_of, entry_in, parsed, Unpacks};
 
 use crate::table::{Axis, Entry, MOST_MILLIMETRES, Table};
 use std::alloc::{AllocError, AllocFailed, Global};
@@ -37,24 +39,56 @@ impl<T: Drop> From<AllocFailed<T>> for PitchFault {
     }
 }
 
-fn code_of(axis: Axis) -> u8
-    ensures { result ≡ code axis }
-{
-    match axis {
-        Axis::X => 0,
-        Axis::Y => 1,
-        Axis::Z => 2,
+/// The byte of an axis in a block.
+impl From<Axis> for u8 {
+    ghost from_gives = { λ axis r. r ≡ code axis };
+
+    fn from(axis: Axis) -> u8 {
+        match axis {
+            Axis::X => 0,
+            Axis::Y => 1,
+            Axis::Z => 2,
+        }
     }
 }
 
-// The four bytes of a millimetre, from which it can be read again.
-fn four(e: Entry) -> [u8; 4]
-    ensures bytes { result ≡ four_of e }
-    ensures back { entry_of (slice_index result 0) (slice_index result 1) (slice_index result 2) (slice_index result 3) ≡ e }
-{
-    let [a, b] = e.forward.to_le_bytes();
-    let [c, d] = e.back.to_le_bytes();
-    [a, b, c, d]
+/// The axis of a byte in a block.
+impl TryFrom<u8> for Axis {
+    type Error = PitchFault;
+
+    ghost try_from_gives = { λ b r. r ≡ ok_or (axis_of b) NoAxis };
+
+    fn try_from(b: u8) -> Result<Axis, PitchFault> {
+        match b {
+            0 => Ok(Axis::X),
+            1 => Ok(Axis::Y),
+            2 => Ok(Axis::Z),
+            _ => Err(PitchFault::Axis),
+        }
+    }
+}
+
+/// The four bytes of a millimetre, from which it can be read again.
+impl From<Entry> for [u8; 4] {
+    ghost from_gives = { λ e r. (r ≡ four_of e) × (entry_in r ≡ e) };
+
+    fn from(e: Entry) -> [u8; 4] {
+        let [a, b] = e.forward.to_le_bytes();
+        let [c, d] = e.back.to_le_bytes();
+        [a, b, c, d]
+    }
+}
+
+/// The millimetre of four bytes.
+impl From<[u8; 4]> for Entry {
+    ghost from_gives = { λ four r. r ≡ entry_in four };
+
+    fn from([a, b, c, d]: [u8; 4]) -> Entry {
+        Entry {
+            forward: i16::from_le_bytes([a, b]),
+            back: i16::from_le_bytes([c, d]),
+        }
+    }
 }
 
 // The first eight bytes of a block.
@@ -63,7 +97,7 @@ fn header(heap: Global, axis: Axis, screw: u16, count: u16) -> Result<Vec<u8>, P
 {
     let [s, t] = screw.to_le_bytes();
     let [m, n] = count.to_le_bytes();
-    let bytes = [b'P', b'T', code_of(axis), s, t, m, n, 0];
+    let bytes = [b'P', b'T', u8::from(axis), s, t, m, n, 0];
     Ok(Vec::from_slice(heap, &bytes)?)
 }
 
@@ -75,44 +109,18 @@ pub fn pack(heap: Global, table: &Table) -> Result<Vec<u8>, PitchFault>
     let count = table.entries.len() as u16;
     let mut out = header(heap, table.axis, table.screw, count)?;
     for e in table.entries.iter() {
-        out.extend_from_slice(&four(*e))?;
+        let four = <[u8; 4]>::from(*e);
+        out.extend_from_slice(&four)?;
     }
     Ok(out)
 }
 
-fn axis_of(b: u8) -> Option<Axis>
-    ensures { result ≡ axis_of b }
+// The millimetres of the bytes after a head.
+fn entries_in(heap: Global, body: &[u8]) -> Result<Vec<Entry>, PitchFault>
+    ensures { MatchResult result (λ v. v.items ≡ map entry_in (first_chunks 4 (length body.now / 4) body.now)) (λ e. e ≡ Memory) }
 {
-    match b {
-        0 => Some(Axis::X),
-        1 => Some(Axis::Y),
-        2 => Some(Axis::Z),
-        _ => None,
-    }
-}
-
-// Millimetre `i` of a block.
-fn entry_at(bytes: &[u8], i: usize) -> Entry
-    requires { 8 + 4 * i + 4 ≤ length bytes.now }
-    ensures { result ≡ entry_at bytes.now i }
-{
-    let at = 8 + 4 * i;
-    Entry {
-        forward: i16::from_le_bytes([bytes[at], bytes[at + 1]]),
-        back: i16::from_le_bytes([bytes[at + 2], bytes[at + 3]]),
-    }
-}
-
-// The millimetres of a block.
-fn entries_in(heap: Global, bytes: &[u8], count: usize) -> Result<Vec<Entry>, PitchFault>
-    requires { length bytes.now ≡ 8 + 4 * count }
-    ensures { MatchResult result (λ v. v.items ≡ entries_in bytes.now count) (λ e. e ≡ Memory) }
-{
-    let mut all = Vec::new(heap);
-    for i in 0..count {
-        all.push(entry_at(bytes, i))?;
-    }
-    Ok(all)
+    let (fours, _) = body.as_chunks::<4>();
+    Ok(fours.iter().map(|four| Entry::from(*four)).collect(heap)?)
 }
 
 /// Makes a table of a block, or says the first fault in it. Where there is a table, `bytes` are its block.
@@ -120,24 +128,19 @@ pub fn unpack(heap: Global, bytes: &[u8]) -> Result<Table, PitchFault>
     ensures answer { Unpacks result (parsed bytes.now) }
     ensures block { IfOk result (λ t. bytes.now ≡ block_of (parts_of t)) }
 {
-    if bytes.len() < 8 {
+    let [b'P', b'T', axis, s, t, m, n, 0, body @ ..] = bytes else {
         return Err(PitchFault::Header);
-    }
-    if bytes[0] != b'P' || bytes[1] != b'T' || bytes[7] != 0 {
-        return Err(PitchFault::Header);
-    }
-    let Some(axis) = axis_of(bytes[2]) else {
-        return Err(PitchFault::Axis);
     };
-    let screw = u16::from_le_bytes([bytes[3], bytes[4]]);
-    let count = usize::from(u16::from_le_bytes([bytes[5], bytes[6]]));
+    let axis = Axis::try_from(*axis)?;
+    let screw = u16::from_le_bytes([*s, *t]);
+    let count = usize::from(u16::from_le_bytes([*m, *n]));
     if count > MOST_MILLIMETRES {
         return Err(PitchFault::Count);
     }
-    if bytes.len() != 8 + 4 * count {
+    if body.len() != 4 * count {
         return Err(PitchFault::Length);
     }
-    let entries = entries_in(heap, bytes, count)?;
+    let entries = entries_in(heap, body)?;
     Ok(Table {
         axis,
         screw,

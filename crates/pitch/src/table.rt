@@ -1,9 +1,11 @@
 // A table of pitch errors.
-ghost use Rattle.std.specs.Prelude.{◌≡◌, ◌<◌, ◌≤◌, [], ◌∷◌, ◌++◌, is_ok, if◌then◌else◌, vec_len, MatchResult, nat_lt};
+ghost use Rattle.std.specs.Prelude.{◌≡◌, ◌<◌, ◌≤◌, Some, [], ◌∷◌, ◌++◌, is_ok, if◌then◌else◌, vec_len, MatchResult, nat_lt};
+ghost use Rattle.pitch.specs.Names.{axis_name};
 ghost use Rattle.pitch.specs.Limits.{most_millimetres};
 ghost use Rattle.pitch.specs.declared.table.TableFault.TheVariants.{Memory, TooMany};
 
 use std::alloc::Global;
+use std::fmt;
 
 /// The axis that the screw drives.
 #[derive(Clone, Copy, PartialEq, Eq, Debug)]
@@ -11,6 +13,18 @@ pub enum Axis {
     X,
     Y,
     Z,
+}
+
+impl fmt::Display for Axis {
+    ghost output = { λ axis. Some (axis_name axis) };
+
+    fn fmt<W: fmt::Write>(&self, f: &mut fmt::Formatter<W>) -> fmt::Result {
+        f.write_str(match self {
+            Axis::X => "X",
+            Axis::Y => "Y",
+            Axis::Z => "Z",
+        })
+    }
 }
 
 /// The errors at one millimetre, in micrometres: on the way out and on the way back.
@@ -65,9 +79,6 @@ impl Table {
         if self.entries.len() >= MOST_MILLIMETRES {
             return Err(TableFault::TooMany);
         }
-        match self.entries.push(entry) {
-            Ok(()) => Ok(()),
-            Err(_) => Err(TableFault::Memory),
-        }
+        self.entries.push(entry).map_err(|_| TableFault::Memory)
     }
 }

@@ -6,7 +6,7 @@ use Rattle.pitch.proofs.pack.pack.Goals as goal
 
 pub loop-e-preserved : goal.loop-e-preserved
 loop-e-preserved c =
-    joined_next four_of Fitting (head_of c.args.table.now.axis c.args.table.now.screw c.len-count.result) (vec_items c.loop-e.out) (vec_items c.extend_from_slice.new.self) c.four.result (vec_items c.args.table.now.entries) c.deref-e-items.result.now c.loop-e.e-index _ c.deref-e-items.ensures.value c.loop-e-test.true c.four.ensures.bytes c.in_ok-extend_from_slice.ensures.items (rw c.four.ensures.bytes at c.four.ensures.back) c.loop-e.invariant
+    joined_next four_of Fitting (head_of c.args.table.now.axis c.args.table.now.screw c.len-count.result) (vec_items c.loop-e.out) (vec_items c.extend_from_slice.new.self) c.from-four.result (vec_items c.args.table.now.entries) c.deref-e-items.result.now c.loop-e.e-index _ c.deref-e-items.ensures.value c.loop-e-test.true c.from-four.ensures.0 c.in_ok-extend_from_slice.ensures.items (rw c.from-four.ensures.0 at c.from-four.ensures.1) c.loop-e.invariant
 
 pub returns : goal.returns
 returns c = let at-end : c.loop-e.e-index ≡ length (vec_items c.args.table.now.entries) = search rules in

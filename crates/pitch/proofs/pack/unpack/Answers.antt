@@ -1,15 +1,22 @@
-use Rattle.std.proofs.Common.{length, vec_items, sym, ap, arith, rules}
+use Rattle.std.proofs.Common.{◌≡◌, length, get_or, ap, arith, rules, Some}
+use Rattle.std.proofs.lemmas.List.{take_rest}
 use Rattle.std.proofs.lemmas.List.FromFn.{length-map-range_with_len}
-use Rattle.pitch.specs.Block.{entry_at}
-use Rattle.pitch.proofs.Blocks.{block_back}
+use Rattle.pitch.specs.Block.{entry_at, entries_in, axis_of}
+use Rattle.pitch.proofs.Blocks.{unpacked, block_back}
 use Rattle.pitch.proofs.pack.unpack.Goals as goal
 
 pub invariant_of-result : goal.invariant_of-result
 invariant_of-result c =
-    record { few = omega (arith, ap length c.in_ok-entries.ensures, length-map-range_with_len (entry_at c.args.bytes.now) 0 c.from-count.result) }
+    let bs = c.args.bytes.now in
+    let es : c.in_ok-entries.entries.items ≡ entries_in bs c.from-count.result = unpacked bs _ _ c.from-count.result (take_rest bs 8) (search rules) c.in_ok-entries.ensures in
+    record { few = omega (arith, ap length es, length-map-range_with_len (entry_at bs) 0 c.from-count.result) }
 
 pub returns : goal.returns
-returns c = record {
-  answer = search rules;
-  block = block_back c.args.bytes.now (λ i. omega (arith, c.type_inv.bytes i)) c.in-Some.axis c.from_le_bytes-screw.result c.from-count.result (vec_items c.in_ok-entries.entries) (search rules) (search rules) c.in_ok-entries.ensures (search rules) (search rules) (search rules) (search rules) (sym c.in-Some.ensures) (search rules);
-}
+returns c =
+    let bs = c.args.bytes.now in
+    let is : axis_of (get_or bs 2 0) ≡ Some c.in_ok-axis.axis = search rules in
+    let es : c.in_ok-entries.entries.items ≡ entries_in bs c.from-count.result = unpacked bs _ _ c.from-count.result (take_rest bs 8) (search rules) c.in_ok-entries.ensures in
+    record {
+      answer = search rules;
+      block = block_back bs (λ i. omega (arith, c.type_inv.bytes i)) c.in_ok-axis.axis c.from_le_bytes-screw.result c.from-count.result c.in_ok-entries.entries.items (search rules) (search rules) es (search rules) (search rules) (search rules) (search rules) is (search rules);
+    }
