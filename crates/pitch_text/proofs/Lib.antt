@@ -1,3 +1,4 @@
 pub mod Scans
 pub mod Texts
+pub mod Pieces
 pub mod Shows

@@ -11,10 +11,11 @@ use Rattle.pitch.specs.declared.table.Axis.{Axis}
 use Rattle.pitch.specs.declared.table.Axis.TheVariants.{X, Y, Z}
 use Rattle.pitch.specs.declared.table.Entry.{Entry}
 use Rattle.pitch_text.specs.declared.text.Statement.TheVariants.{Named, Numbered, Errors}
-use Rattle.pitch_text.specs.Words.{up_to, from, before, blank, words_of, lines_of, digit, digit_after, onward, read_on, numeral, signed_in}
+use Rattle.pitch_text.specs.Words.{up_to, before, blank, words_of, lines_of, digit, digit_after, onward, read_on, numeral, signed_in}
+use Rattle.pitch.specs.Names.{axis_name}
 use Rattle.pitch.specs.Block.{Parts}
-use Rattle.pitch_text.specs.Text.{axis_name, line_of, head_lines, text_of, pair_statement, statement_of, statement_in, start, has_axis, ready, read_lines, read_text}
-use Rattle.pitch_text.proofs.Scans.{numeral_some, word_first}
+use Rattle.pitch_text.specs.Text.{line_of, head_lines, text_of, pair_statement, said, statement_of, statement_in, start, has_axis, ready, read_lines, read_text}
+use Rattle.pitch_text.proofs.Scans.{from, numeral_some, word_first}
 use Rattle.pitch_text.proofs.Texts.{lines_cut}
 
 -- an entry of two numbers of 16 bits
@@ -136,12 +137,12 @@ undelimited w h = All-weaker NumeralByte NoDelimiter (λ x p. let low : 45 ≤ x
 
 -- two words
 module _ (w v : List ℕ) (w-some : 0 < length w) (v-some : 0 < length v) (w-free : All NoDelimiter w) (v-free : All NoDelimiter v) where
-  pair_statement_lem : statement_in (w ++ 32 ∷ v) ≡ pair_statement w v
+  pair_statement_lem : statement_in (w ++ 32 ∷ v) ≡ said (pair_statement w v)
   pair_statement_lem =
-      let said : before 35 (w ++ 32 ∷ v) ≡ w ++ 32 ∷ v = up_to_none (λ y. eqb y 35) (w ++ 32 ∷ v) (All-append (λ y. eqb y 35 ≡ false) w (32 ∷ v) (All-weaker NoDelimiter (λ y. eqb y 35 ≡ false) (λ x q. q.1) w w-free) (refl, All-weaker NoDelimiter (λ y. eqb y 35 ≡ false) (λ x q. q.1) v v-free)) in
+      let front : before 35 (w ++ 32 ∷ v) ≡ w ++ 32 ∷ v = up_to_none (λ y. eqb y 35) (w ++ 32 ∷ v) (All-append (λ y. eqb y 35 ≡ false) w (32 ∷ v) (All-weaker NoDelimiter (λ y. eqb y 35 ≡ false) (λ x q. q.1) w w-free) (refl, All-weaker NoDelimiter (λ y. eqb y 35 ≡ false) (λ x q. q.1) v v-free)) in
       let words : words_of (w ++ 32 ∷ v) ≡ w ∷ words_of v = words_at w v w-some (All-weaker NoDelimiter (λ y. blank y ≡ false) (λ x q. q.0) w w-free) in
       let last : words_of v ≡ v ∷ [] = words_last v v-some (All-weaker NoDelimiter (λ y. blank y ≡ false) (λ x q. q.0) v v-free) in
-      ap (λ l. statement_of (words_of l)) said ∙ (ap statement_of words ∙ ap (λ ws. statement_of (w ∷ ws)) last)
+      ap (λ l. statement_of (words_of l)) front ∙ (ap statement_of words ∙ ap (λ ws. statement_of (w ∷ ws)) last)
 
   pair_line : (rest : List ℕ) → lines_of ((w ++ 32 ∷ v) ++ 10 ∷ rest) ≡ (w ++ 32 ∷ v) ∷ lines_of rest
   pair_line rest = lines_at (w ++ 32 ∷ v) rest (All-append (λ y. eqb y 10 ≡ false) w (32 ∷ v) (All-weaker NoDelimiter (λ y. eqb y 10 ≡ false) (λ x q. q.2) w w-free) (refl, All-weaker NoDelimiter (λ y. eqb y 10 ≡ false) (λ x q. q.2) v v-free))
@@ -154,11 +155,11 @@ no_key (x ∷ xs) c cs n h =
     let t : eqb x c ≡ false = grind (arith, nat_tests) in
     rw t
 
-entry_statement : (e : Entry) → Fits16 e → statement_in (signed_decimal e.forward ++ 32 ∷ signed_decimal e.back) ≡ Ok (Errors e)
+entry_statement : (e : Entry) → Fits16 e → statement_in (signed_decimal e.forward ++ 32 ∷ signed_decimal e.back) ≡ Ok (Some (Errors e))
 entry_statement e s =
     let f : Numeric (signed_decimal e.forward) = signed_numeric e.forward s.0 in
     let b : Numeric (signed_decimal e.back) = signed_numeric e.back s.1 in
-    let row : statement_in (signed_decimal e.forward ++ 32 ∷ signed_decimal e.back) ≡ pair_statement (signed_decimal e.forward) (signed_decimal e.back) = pair_statement_lem (signed_decimal e.forward) (signed_decimal e.back) f.some b.some (undelimited _ f.bytes) (undelimited _ b.bytes) in
+    let row : statement_in (signed_decimal e.forward ++ 32 ∷ signed_decimal e.back) ≡ said (pair_statement (signed_decimal e.forward) (signed_decimal e.back)) = pair_statement_lem (signed_decimal e.forward) (signed_decimal e.back) f.some b.some (undelimited _ f.bytes) (undelimited _ b.bytes) in
     let k1 : bytes_eq (signed_decimal e.forward) (codes "axis") ≡ false = no_key (signed_decimal e.forward) 97 (codes "xis") f (omega arith) in
     let k2 : bytes_eq (signed_decimal e.forward) (codes "screw") ≡ false = no_key (signed_decimal e.forward) 115 (codes "crew") f (omega arith) in
     row ∙ rw (k1, k2, signed_back e.forward s.0, signed_back e.back s.1)
@@ -175,7 +176,7 @@ body_read : (n : ℕ) (a : Axis) (s : ℕ) (es fs : List Entry) → All Fits16 f
 body_read n a s es [] fits few = rw (append-nil es)
 body_read n a s es (f ∷ fs) fits few =
     let line : lines_of (line_of f ++ flat_map line_of fs) ≡ (signed_decimal f.forward ++ 32 ∷ signed_decimal f.back) ∷ lines_of (flat_map line_of fs) = entry_line f (flat_map line_of fs) fits.0 in
-    let row : statement_in (signed_decimal f.forward ++ 32 ∷ signed_decimal f.back) ≡ Ok (Errors f) = entry_statement f fits.0 in
+    let row : statement_in (signed_decimal f.forward ++ 32 ∷ signed_decimal f.back) ≡ Ok (Some (Errors f)) = entry_statement f fits.0 in
     let room : ltb (length es) 2000 ≡ true = grind (arith, nat_tests) in
     let grown : length (es ++ f ∷ []) ≡ length es + 1 = length_push es f in
     let again : read_lines (n + 1) (ready (record { axis = a; screw = s; entries = es ++ f ∷ [] })) (lines_of (flat_map line_of fs)) ≡ Ok (record { axis = a; screw = s; entries = (es ++ f ∷ []) ++ fs }) = body_read (n + 1) a s (es ++ f ∷ []) fs fits.1 (omega arith) in
@@ -185,7 +186,7 @@ body_read n a s es (f ∷ fs) fits few =
 screw_undelimited : All NoDelimiter (codes "screw")
 screw_undelimited = ((refl, refl, refl), ((refl, refl, refl), ((refl, refl, refl), ((refl, refl, refl), ((refl, refl, refl), tt)))))
 
-screw_statement_lem : (s : ℕ) → s < 65536 → statement_in (codes "screw " ++ decimal s) ≡ Ok (Numbered s)
+screw_statement_lem : (s : ℕ) → s < 65536 → statement_in (codes "screw " ++ decimal s) ≡ Ok (Some (Numbered s))
 screw_statement_lem s h =
     let n : Numeric (decimal s) = decimal_numeric s (omega arith) in
     let w : Writes s (decimal s) = decimal_writes s (omega arith) in
@@ -197,7 +198,7 @@ screw_line s rest h =
     let n : Numeric (decimal s) = decimal_numeric s (omega arith) in
     ap (λ xs. lines_of (codes "screw " ++ xs)) (append_assoc (decimal s) (codes "\n") rest) ∙ pair_line (codes "screw") (decimal s) (omega arith) n.some screw_undelimited (undelimited _ n.bytes) rest
 
-axis_statement_lem : (a : Axis) → statement_in (codes "axis " ++ axis_name a) ≡ Ok (Named a)
+axis_statement_lem : (a : Axis) → statement_in (codes "axis " ++ axis_name a) ≡ Ok (Some (Named a))
 axis_statement_lem X = refl
 axis_statement_lem Y = refl
 axis_statement_lem Z = refl

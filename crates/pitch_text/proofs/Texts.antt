@@ -1,26 +1,32 @@
 -- Reading a text, a line at a time. Assumes nothing.
-use Rattle.std.proofs.Common.{◌≡◌, ℕ, ◌+◌, ◌<◌, ◌≤◌, Bool, true, false, cond, eqb, ◌⊎◌, List, [], ◌∷◌, length, is_ok, Ok, Err, Result, sym, refl, ap, ◌∙◌, subst, inl, inr, arith}
-use Rattle.std.proofs.lemmas.List.{length-drop}
+use Rattle.std.proofs.Common.{◌≡◌, ℕ, ◌+◌, ◌<◌, ◌≤◌, true, false, cond, eqb, ◌⊎◌, List, [], ◌∷◌, length, get_or, drop, is_ok, Some, None, Ok, Err, Option, Result, Bor, sym, refl, ap, ◌∙◌, subst, inl, inr, arith}
+use Rattle.std.proofs.lemmas.List.{drop_more, drop_all}
 use Rattle.std.proofs.lemmas.Bool.{both_ways}
 use Rattle.pitch_text.specs.declared.text.What.{What}
-use Rattle.pitch_text.specs.declared.text.What.TheVariants.{Memory}
+use Rattle.pitch_text.specs.declared.text.What.TheVariants.{Memory, Words}
+use Rattle.pitch_text.specs.declared.text.Statement.{Statement}
 use Rattle.pitch_text.specs.declared.text.TextFault.{TextFault}
 use Rattle.pitch.specs.Block.{Parts}
-use Rattle.pitch_text.specs.Words.{from, before, after, lines_of}
-use Rattle.pitch_text.specs.Text.{Sofar, start, has_axis, has_screw, ready, statement_in, line_taken, go_on, read_lines, at_end, NotAfter}
-use Rattle.pitch_text.proofs.Scans.{lines_more}
-
-from_le : (p : ℕ → Bool) (xs : List ℕ) → length (from p xs) ≤ length xs
-from_le p [] = omega arith
-from_le p (x ∷ xs) = elim (p x) as (λ b. length (cond b (x ∷ xs) (from p xs)) ≤ length (x ∷ xs)) [ true ↦ omega arith | false ↦ omega (arith, from_le p xs) ]
-
--- the rest of a text is shorter than the text
-pub after_less : (xs : List ℕ) → 0 < length xs → length (after 10 xs) < length xs
-after_less xs h = omega (arith, length-drop 1 (from (λ y. eqb y 10) xs), from_le (λ y. eqb y 10) xs)
+use Rattle.pitch_text.specs.Words.{before, onto, lines_of}
+use Rattle.pitch_text.specs.Text.{Sofar, start, has_axis, has_screw, ready, said, pair_statement, statement_of, statement_in, line_taken, go_on, read_lines, at_end, NotAfter}
+use Rattle.pitch_text.proofs.Scans.{after, lines_more, Three}
 
 pub lines_cut : (xs : List ℕ) → 0 < length xs → lines_of xs ≡ before 10 xs ∷ lines_of (after 10 xs)
 lines_cut [] h = absurd (omega arith)
 lines_cut (x ∷ xs) h = lines_more x xs
+
+-- what a line says, of the first three words that come
+abbrev pub stated : Option (Bor (List ℕ)) → Option (Bor (List ℕ)) → Option (Bor (List ℕ)) → Result (Option Statement) What
+stated None b c = Ok None
+stated (Some x) None c = Err Words
+stated (Some x) (Some y) None = said (pair_statement x.now y.now)
+stated (Some x) (Some y) (Some z) = Err Words
+
+pub stated_of : (a b c : Option (Bor (List ℕ))) (ws : List (List ℕ)) → Three (λ x. x.now) a b c ws → statement_of ws ≡ stated a b c
+stated_of None b c ws h = rw h
+stated_of (Some x) None c ws h = rw h
+stated_of (Some x) (Some y) None ws h = rw h
+stated_of (Some x) (Some y) (Some z) ws h = rw h.1
 
 -- a fault in the lines after the first n has a later line
 not_after : (k n : ℕ) (s : Sofar) (ls : List (List ℕ)) → k ≤ n → NotAfter k (read_lines n s ls)
@@ -34,35 +40,37 @@ not_after k n s (l ∷ ls) le =
       | Ok t ↦ not_after k (n + 1) t ls (omega arith)
     ]
 
--- one line less is left
-pub one_line : (n count : ℕ) (rest more : List ℕ) → 0 < length rest → more ≡ after 10 rest → n + length (lines_of rest) ≡ count → n + 1 + length (lines_of more) ≡ count
-one_line n count rest more some others all =
-    let first : length (lines_of rest) ≡ length (before 10 rest ∷ lines_of (after 10 rest)) = ap length (lines_cut rest some) in
-    let same : length (lines_of more) ≡ length (lines_of (after 10 rest)) = ap (λ xs. length (lines_of xs)) others in
-    omega arith
+-- there are no more lines than bytes
+pub lines_le : (xs : List ℕ) → length (lines_of xs) ≤ length xs
+lines_le [] = omega arith
+lines_le (x ∷ xs) = elim (eqb x 10) as (λ b. length (cond b ([] ∷ lines_of xs) (onto x (lines_of xs))) ≤ length (x ∷ xs)) [
+  | true ↦ omega (arith, lines_le xs)
+  | false ↦ omega (arith, onto_le x (lines_of xs), lines_le xs)
+]
+  where
+    onto_le : (y : ℕ) (ls : List (List ℕ)) → length (onto y ls) ≤ length ls + 1
+    onto_le y [] = omega arith
+    onto_le y (l ∷ ls) = omega arith
 
-module _ (n : ℕ) (s : Sofar) (rest one more : List ℕ) (want : Result Parts TextFault) (some : 0 < length rest) (first : one ≡ before 10 rest) (others : more ≡ after 10 rest) (inv : read_lines n s (lines_of rest) ≡ want) where
-  unfolded : go_on (n + 1) (line_taken (statement_in one) s) (λ t. read_lines (n + 1) t (lines_of more)) ≡ want
-  unfolded = rw (first, others) (sym (ap (read_lines n s) (lines_cut rest some)) ∙ inv)
+-- after n of all the lines, the next of them is `one`
+module _ (n : ℕ) (s : Sofar) (all : List (List ℕ)) (one : List ℕ) (want : Result Parts TextFault) (left : n < length all) (first : one ≡ get_or all n one) (inv : read_lines n s (drop n all) ≡ want) where
+  unfolded : go_on (n + 1) (line_taken (statement_in one) s) (λ t. read_lines (n + 1) t (drop (n + 1) all)) ≡ want
+  unfolded = let next : drop n all ≡ one ∷ drop (n + 1) all = drop_more all n one left ∙ ap (λ l. l ∷ drop (n + 1) all) (sym first) in sym (ap (read_lines n s) next) ∙ inv
 
-  -- a line was read
-  pub read_line : (t : Sofar) → line_taken (statement_in one) s ≡ Ok t → read_lines (n + 1) t (lines_of more) ≡ want
+  -- it was read
+  pub read_line : (t : Sofar) → line_taken (statement_in one) s ≡ Ok t → read_lines (n + 1) t (drop (n + 1) all) ≡ want
   read_line t e = rw e at unfolded
 
-  -- a line was refused
+  -- it was refused
   pub refused : (w : What) → (line_taken (statement_in one) s ≡ Err w) ⊎ ((w ≡ Memory) × (is_ok (line_taken (statement_in one) s) ≡ true))
-      → (count : ℕ) → n + length (lines_of rest) ≡ count
-      → (want ≡ Err (record { line = n + 1; what = w })) ⊎ ((w ≡ Memory) × (1 ≤ n + 1) × (n + 1 ≤ count) × NotAfter (n + 1) want)
-  refused w (inl e) count all = inl (sym (rw e at unfolded))
-  refused w (inr e) count all =
-      let within : n + 1 + length (lines_of more) ≡ count = one_line n count rest more some others all in
-      inr (e.0, omega arith, omega arith, no_fault (line_taken (statement_in one) s) refl)
+      → (want ≡ Err (record { line = n + 1; what = w })) ⊎ ((w ≡ Memory) × (1 ≤ n + 1) × (n + 1 ≤ length all) × NotAfter (n + 1) want)
+  refused w (inl e) = inl (sym (rw e at unfolded))
+  refused w (inr e) = inr (e.0, omega arith, omega arith, no_fault (line_taken (statement_in one) s) refl)
     where
       no_fault : (o : Result Sofar What) → line_taken (statement_in one) s ≡ o → NotAfter (n + 1) want
-      no_fault (Ok t) is = subst (NotAfter (n + 1)) (read_line t is) (not_after (n + 1) (n + 1) t (lines_of more) (omega arith))
+      no_fault (Ok t) is = subst (NotAfter (n + 1)) (read_line t is) (not_after (n + 1) (n + 1) t (drop (n + 1) all) (omega arith))
       no_fault (Err v) is = let z : true ≡ false = sym e.1 ∙ ap is_ok is in absurd (both_ways false refl (sym z))
 
 -- no line is left
-pub read_end : (n : ℕ) (s : Sofar) (rest : List ℕ) (want : Result Parts TextFault) → length rest ≡ 0 → read_lines n s (lines_of rest) ≡ want → at_end n s ≡ want
-read_end n s [] want none inv = inv
-read_end n s (x ∷ xs) want none inv = absurd (omega arith)
+pub read_end : (n : ℕ) (s : Sofar) (all : List (List ℕ)) (want : Result Parts TextFault) → n ≡ length all → read_lines n s (drop n all) ≡ want → at_end n s ≡ want
+read_end n s all want none inv = sym (ap (read_lines n s) (drop_all n all (omega arith))) ∙ inv

@@ -7,14 +7,17 @@ use Rattle.pitch.specs.declared.table.Axis.{Axis}
 use Rattle.pitch.specs.declared.table.Axis.TheVariants.{X, Y, Z}
 use Rattle.pitch.specs.declared.table.Entry.{Entry}
 use Rattle.pitch.specs.declared.table.Table.{Table}
+use Rattle.pitch.specs.declared.table.TableFault.{TableFault}
+use Rattle.pitch.specs.declared.table.TableFault.TheVariants.{Memory as NoMemory, TooMany as Full}
 use Rattle.pitch_text.specs.declared.text.What.{What}
 use Rattle.pitch_text.specs.declared.text.What.TheVariants.{Memory, Axis as NoAxis, Screw as NoScrew, Words, Number, TooMany, Early, Twice, Missing}
 use Rattle.pitch_text.specs.declared.text.TextFault.{TextFault}
 use Rattle.pitch_text.specs.declared.text.Statement.{Statement}
-use Rattle.pitch_text.specs.declared.text.Statement.TheVariants.{Named, Numbered, Errors, Nothing}
+use Rattle.pitch_text.specs.declared.text.Statement.TheVariants.{Named, Numbered, Errors}
 use Rattle.pitch_text.specs.declared.text.Reading.{Reading}
 use Rattle.pitch_text.specs.declared.text.Reading.TheVariants.{Start, HasAxis, HasScrew, Ready}
 use Rattle.pitch.specs.Limits.{most_millimetres}
+use Rattle.pitch.specs.Names.{axis_name}
 use Rattle.pitch.specs.Block.{Parts, parts_of}
 use Rattle.pitch_text.specs.Words.{before, words_of, lines_of, numeral, signed_in}
 
@@ -28,6 +31,11 @@ message_of TooMany = codes "more than 2000 millimetres"
 message_of Early = codes "errors before the axis and the screw"
 message_of Twice = codes "the axis or the screw for the second time"
 message_of Missing = codes "the text ends without an axis or a screw"
+
+-- what a table's refusal of a millimetre is for its line
+abbrev pub what_of : TableFault → What
+what_of NoMemory = Memory
+what_of Full = TooMany
 
 -- what is printed of a fault
 abbrev pub fault_text : TextFault → List ℕ
@@ -49,14 +57,19 @@ errors_statement (Some f) (Some b) = Ok (Errors (record { forward = f; back = b 
 abbrev pub pair_statement : List ℕ → List ℕ → Result Statement What
 pair_statement a b = cond (bytes_eq a (codes "axis")) (axis_statement b) (cond (bytes_eq a (codes "screw")) (screw_statement (numeral 65535 b)) (errors_statement (signed_in a) (signed_in b)))
 
-abbrev pub statement_of : List (List ℕ) → Result Statement What
-statement_of [] = Ok Nothing
+-- a line that says something
+abbrev pub said : Result Statement What → Result (Option Statement) What
+said (Err w) = Err w
+said (Ok row) = Ok (Some row)
+
+abbrev pub statement_of : List (List ℕ) → Result (Option Statement) What
+statement_of [] = Ok None
 statement_of (a ∷ []) = Err Words
-statement_of (a ∷ b ∷ []) = pair_statement a b
+statement_of (a ∷ b ∷ []) = said (pair_statement a b)
 statement_of (a ∷ b ∷ c ∷ ws) = Err Words
 
 -- what a line says, up to a `#`
-abbrev pub statement_in : List ℕ → Result Statement What
+abbrev pub statement_in : List ℕ → Result (Option Statement) What
 statement_in line = statement_of (words_of (before 35 line))
 
 -- what is known so far: nothing, the axis or the screw, or a table with both
@@ -94,11 +107,11 @@ abbrev pub taken : Statement → Sofar → Result Sofar What
 taken (Named a) s = named a s
 taken (Numbered n) s = numbered n s
 taken (Errors e) s = measured e s
-taken Nothing s = Ok s
 
-abbrev pub line_taken : Result Statement What → Sofar → Result Sofar What
+abbrev pub line_taken : Result (Option Statement) What → Sofar → Result Sofar What
 line_taken (Err w) s = Err w
-line_taken (Ok row) s = taken row s
+line_taken (Ok None) s = Ok s
+line_taken (Ok (Some row)) s = taken row s
 
 -- the answer is what was wanted, unless no fault was and there is not enough memory
 abbrev pub Takes : Result Reading What → Result Sofar What → Type 0
@@ -134,11 +147,6 @@ NotAfter n (Err f) = n ≤ f.line
 abbrev pub Reads : ℕ → Result Table TextFault → Result Parts TextFault → Type 0
 Reads count (Ok t) want = want ≡ Ok (parts_of t)
 Reads count (Err f) want = (want ≡ Err f) ⊎ ((f.what ≡ Memory) × (1 ≤ f.line) × (f.line ≤ count) × NotAfter f.line want)
-
-abbrev pub axis_name : Axis → List ℕ
-axis_name X = codes "X"
-axis_name Y = codes "Y"
-axis_name Z = codes "Z"
 
 -- the line of one millimetre
 abbrev pub line_of : Entry → List ℕ

@@ -1,21 +1,13 @@
 -- Lines, words and numbers in a list of bytes.
-use Rattle.std.specs.Prelude.{◌≡◌, ℕ, ◌+◌, ◌-◌, ◌*◌, Bool, cond, ◌&&◌, ◌||◌, List, [], ◌∷◌, drop, ℤ, pos, neg_ℤ, Some, None, Option, ◌==◌, nat_eq, nat_le}
+use Rattle.std.specs.Prelude.{ℕ, ◌+◌, ◌-◌, ◌*◌, Bool, cond, ◌&&◌, ◌||◌, List, [], ◌∷◌, ℤ, pos, neg_ℤ, Some, None, Option, ◌==◌, nat_eq, nat_le}
 
 -- the bytes before the first that passes a test, or all
 abbrev pub up_to : (ℕ → Bool) → List ℕ → List ℕ
 up_to p [] = []
 up_to p (x ∷ xs) = cond (p x) [] (x ∷ up_to p xs)
 
--- the bytes from the first that passes a test on, or none
-abbrev pub from : (ℕ → Bool) → List ℕ → List ℕ
-from p [] = []
-from p (x ∷ xs) = cond (p x) (x ∷ xs) (from p xs)
-
 abbrev pub before : ℕ → List ℕ → List ℕ
 before b xs = up_to (λ x. nat_eq x b) xs
-
-abbrev pub after : ℕ → List ℕ → List ℕ
-after b xs = drop 1 (from (λ x. nat_eq x b) xs)
 
 -- one more byte in front of the first piece
 abbrev pub onto : ℕ → List (List ℕ) → List (List ℕ)
@@ -40,11 +32,6 @@ joins x (y ∷ ys) ws = cond (blank y) ((x ∷ []) ∷ ws) (onto x ws)
 abbrev pub words_of : List ℕ → List (List ℕ)
 words_of [] = []
 words_of (x ∷ xs) = cond (blank x) (words_of xs) (joins x xs (words_of xs))
-
--- w is the first of the words ws and rest are the others, or w is empty since there is none
-abbrev pub Took : List (List ℕ) → List ℕ → List (List ℕ) → Type 0
-Took ws [] rest = ws ≡ []
-Took ws (x ∷ xs) rest = ws ≡ (x ∷ xs) ∷ rest
 
 abbrev pub digit : ℕ → Bool
 digit x = nat_le 48 x && nat_le x 57

@@ -2,26 +2,15 @@
 ghost use Rattle.std.specs.Prelude.{◌≡◌, IfOk, Ok, string_bytes, FitsSigned};
 ghost use Rattle.std.specs.Int.{w16};
 ghost use Rattle.pitch.specs.Block.{parts_of};
-ghost use Rattle.pitch_text.specs.Text.{axis_name, head_lines, line_of, text_of, read_text};
+ghost use Rattle.pitch_text.specs.Text.{head_lines, line_of, text_of, read_text};
 
 use pitch::table::{Axis, Entry, Table};
 use std::alloc::{AllocError, Global};
 
-fn axis_name(axis: Axis) -> &'static str
-    ensures { result.now ≡ axis_name axis }
-{
-    match axis {
-        Axis::X => "X",
-        Axis::Y => "Y",
-        Axis::Z => "Z",
-    }
-}
-
 fn head_lines(heap: Global, axis: Axis, screw: u16) -> Result<String, AllocError>
     ensures { IfOk result (λ s. string_bytes s ≡ head_lines axis screw) }
 {
-    let name = axis_name(axis);
-    format!(in heap; "axis {name}\nscrew {screw}\n")
+    format!(in heap; "axis {axis}\nscrew {screw}\n")
 }
 
 // The line of one millimetre. That its numbers have 16 bits is known here, and not in the loop that calls this.

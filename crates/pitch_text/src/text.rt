@@ -1,9 +1,9 @@
 // Pitch tables as text: `axis X`, `screw 17`, then a line for each millimetre with the forward and the return error in micrometres.
 ghost use Rattle.std.specs.Prelude.{◌≡◌, ℕ, length, Some};
-ghost use Rattle.pitch_text.specs.Words.{lines_of};
-ghost use Rattle.pitch_text.specs.Text.{message_of, fault_text, pair_statement, axis_statement, statement_in, sofar_of, named, numbered, measured, line_taken, Takes, at_end, read_text, Reads};
+ghost use Rattle.pitch_text.specs.Words.{lines_of, numeral, signed_in};
+ghost use Rattle.pitch_text.specs.Text.{message_of, what_of, fault_text, axis_statement, screw_statement, errors_statement, pair_statement, statement_in, sofar_of, named, numbered, measured, line_taken, Takes, at_end, read_text, Reads};
 
-use crate::words::{cut, is_same, next_word, number, signed};
+use crate::words::{before, is_blank, number, signed};
 use pitch::table::{Axis, Entry, Table, TableFault};
 use std::alloc::Global;
 use std::fmt;
@@ -38,19 +38,32 @@ pub struct TextFault {
     pub what: What,
 }
 
-fn message(what: What) -> &'static str
-    ensures { result.now ≡ message_of what }
-{
-    match what {
-        What::Memory => "no memory",
-        What::Axis => "the axis is not X, Y or Z",
-        What::Screw => "the number of the screw is not 0 to 65535",
-        What::Words => "not two words",
-        What::Number => "neither an axis, a screw nor two errors from -32768 to 32767",
-        What::TooMany => "more than 2000 millimetres",
-        What::Early => "errors before the axis and the screw",
-        What::Twice => "the axis or the screw for the second time",
-        What::Missing => "the text ends without an axis or a screw",
+impl fmt::Display for What {
+    ghost output = { λ what. Some (message_of what) };
+
+    fn fmt<W: fmt::Write>(&self, f: &mut fmt::Formatter<W>) -> fmt::Result {
+        f.write_str(match self {
+            What::Memory => "no memory",
+            What::Axis => "the axis is not X, Y or Z",
+            What::Screw => "the number of the screw is not 0 to 65535",
+            What::Words => "not two words",
+            What::Number => "neither an axis, a screw nor two errors from -32768 to 32767",
+            What::TooMany => "more than 2000 millimetres",
+            What::Early => "errors before the axis and the screw",
+            What::Twice => "the axis or the screw for the second time",
+            What::Missing => "the text ends without an axis or a screw",
+        })
+    }
+}
+
+impl From<TableFault> for What {
+    ghost from_gives = { λ fault what. what ≡ what_of fault };
+
+    fn from(fault: TableFault) -> What {
+        match fault {
+            TableFault::Memory => What::Memory,
+            TableFault::TooMany => What::TooMany,
+        }
     }
 }
 
@@ -59,8 +72,8 @@ impl fmt::Display for TextFault {
 
     fn fmt<W: fmt::Write>(&self, f: &mut fmt::Formatter<W>) -> fmt::Result {
         let line = self.line;
-        let text = message(self.what);
-        write!(f, "line {line}: {text}")
+        let what = self.what;
+        write!(f, "line {line}: {what}")
     }
 }
 
@@ -70,7 +83,6 @@ enum Statement {
     Named(Axis),
     Numbered(u16),
     Errors(Entry),
-    Nothing,
 }
 
 // What is known so far.
@@ -85,57 +97,55 @@ enum Reading {
 fn axis_statement(word: &[u8]) -> Result<Statement, What>
     ensures { result ≡ axis_statement word.now }
 {
-    if is_same(word, b"X") {
-        return Ok(Statement::Named(Axis::X));
+    match word {
+        b"X" => Ok(Statement::Named(Axis::X)),
+        b"Y" => Ok(Statement::Named(Axis::Y)),
+        b"Z" => Ok(Statement::Named(Axis::Z)),
+        _ => Err(What::Axis),
     }
-    if is_same(word, b"Y") {
-        return Ok(Statement::Named(Axis::Y));
-    }
-    if is_same(word, b"Z") {
-        return Ok(Statement::Named(Axis::Z));
-    }
-    Err(What::Axis)
+}
+
+fn screw_statement(word: &[u8]) -> Result<Statement, What>
+    ensures { result ≡ screw_statement (numeral 65535 word.now) }
+{
+    number(word, 65535)
+        .map(Statement::Numbered)
+        .ok_or(What::Screw)
+}
+
+fn errors_statement(first: &[u8], second: &[u8]) -> Result<Statement, What>
+    ensures { result ≡ errors_statement (signed_in first.now) (signed_in second.now) }
+{
+    let forward = signed(first).ok_or(What::Number)?;
+    let back = signed(second).ok_or(What::Number)?;
+    Ok(Statement::Errors(Entry { forward, back }))
 }
 
 // What a line of two words says.
 fn pair_statement(first: &[u8], second: &[u8]) -> Result<Statement, What>
     ensures { result ≡ pair_statement first.now second.now }
 {
-    if is_same(first, b"axis") {
-        return axis_statement(second);
+    match first {
+        b"axis" => axis_statement(second),
+        b"screw" => screw_statement(second),
+        _ => errors_statement(first, second),
     }
-    if is_same(first, b"screw") {
-        return match number(second, 65535) {
-            Some(screw) => Ok(Statement::Numbered(screw)),
-            None => Err(What::Screw),
-        };
-    }
-    let Some(forward) = signed(first) else {
-        return Err(What::Number);
-    };
-    let Some(back) = signed(second) else {
-        return Err(What::Number);
-    };
-    Ok(Statement::Errors(Entry { forward, back }))
 }
 
-// What a line says, up to a `#`.
-fn statement_in(line: &[u8]) -> Result<Statement, What>
+// What a line says, up to a `#`; a line without a word says nothing.
+fn statement_in(line: &[u8]) -> Result<Option<Statement>, What>
     ensures { result ≡ statement_in line.now }
 {
-    let (said, _) = cut(line, b'#');
-    let (first, rest) = next_word(said);
-    if first.is_empty() {
-        return Ok(Statement::Nothing);
+    let said = before(line, b'#');
+    let mut words = said.split(|b| is_blank(*b)).filter(|word| !word.is_empty());
+    match (words.next(), words.next(), words.next()) {
+        (None, _, _) => Ok(None),
+        (Some(first), Some(second), None) => pair_statement(first, second).map(Some),
+        _ => Err(What::Words),
     }
-    let (second, rest) = next_word(rest);
-    let (third, _) = next_word(rest);
-    if second.is_empty() || !third.is_empty() {
-        return Err(What::Words);
-    }
-    pair_statement(first, second)
 }
 
+// Kept: `name` and `number` mirror each other, but one over both would hold two options, with a state that cannot be.
 impl Reading {
     fn name(self, heap: Global, axis: Axis) -> Result<Reading, What>
         ensures { Takes result (named axis (sofar_of self)) }
@@ -163,23 +173,19 @@ impl Reading {
         let Reading::Ready(mut table) = self else {
             return Err(What::Early);
         };
-        match table.add(entry) {
-            Ok(()) => Ok(Reading::Ready(table)),
-            Err(TableFault::Memory) => Err(What::Memory),
-            Err(TableFault::TooMany) => Err(What::TooMany),
-        }
+        table.add(entry)?;
+        Ok(Reading::Ready(table))
     }
 
     // Reads one more line.
     fn take(self, heap: Global, line: &[u8]) -> Result<Reading, What>
         ensures { Takes result (line_taken (statement_in line.now) (sofar_of self)) }
     {
-        match statement_in(line) {
-            Ok(Statement::Named(axis)) => self.name(heap, axis),
-            Ok(Statement::Numbered(screw)) => self.number(heap, screw),
-            Ok(Statement::Errors(entry)) => self.add(entry),
-            Ok(Statement::Nothing) => Ok(self),
-            Err(what) => Err(what),
+        match statement_in(line)? {
+            None => Ok(self),
+            Some(Statement::Named(axis)) => self.name(heap, axis),
+            Some(Statement::Numbered(screw)) => self.number(heap, screw),
+            Some(Statement::Errors(entry)) => self.add(entry),
         }
     }
 }
@@ -203,15 +209,11 @@ pub fn read_table(heap: Global, text: &[u8]) -> Result<Table, TextFault>
 {
     let mut reading = Reading::Start;
     let mut line = 0;
-    let mut rest = text;
-    while !rest.is_empty() {
-        let (one, more) = cut(rest, b'\n');
+    for piece in text.split_inclusive(|b| *b == b'\n') {
         line += 1;
-        reading = match reading.take(heap, one) {
-            Ok(next) => next,
-            Err(what) => return Err(TextFault { line, what }),
-        };
-        rest = more;
+        reading = reading
+            .take(heap, before(piece, b'\n'))
+            .map_err(|what| TextFault { line, what })?;
     }
     table_of(reading, line)
 }

@@ -1,62 +1,19 @@
-// Lines, words and numbers in bytes.
-ghost use Rattle.std.specs.Prelude.{◌≡◌, ◌≤◌, not, pos, neg_ℤ, IfSome};
-ghost use Rattle.std.specs.Str.{bytes_eq};
-ghost use Rattle.pitch_text.specs.Words.{up_to, from, before, after, blank, words_of, Took, digit_after, numeral, signed_in};
+// Words and numbers in bytes.
+ghost use Rattle.std.specs.Prelude.{◌≡◌, ◌≤◌, pos, neg_ℤ, IfSome};
+ghost use Rattle.pitch_text.specs.Words.{before, blank, digit_after, numeral, signed_in};
 
-// What stands before the first `b`, and what stands after it.
-pub(crate) fn cut(s: &[u8], b: u8) -> (&[u8], &[u8])
-    ensures front { result.0.now ≡ before b s.now }
-    ensures back { result.1.now ≡ after b s.now }
+// What stands before the first `b`, or all.
+pub(crate) fn before(s: &[u8], b: u8) -> &[u8]
+    ensures { result.now ≡ before b s.now }
 {
-    for (i, x) in s.iter().enumerate() {
-        if *x == b {
-            return (&s[..i], &s[i + 1..]);
-        }
-    }
-    s.split_at(s.len())
+    let end = s.iter().position(|x| *x == b).unwrap_or(s.len());
+    &s[..end]
 }
 
-fn is_blank(b: u8) -> bool
+pub(crate) fn is_blank(b: u8) -> bool
     ensures { result ≡ blank b }
 {
-    b == b' ' || b == b'\t' || b == b'\r'
-}
-
-fn skip_blanks(s: &[u8]) -> &[u8]
-    ensures { result.now ≡ from (λ x. not (blank x)) s.now }
-{
-    for (i, x) in s.iter().enumerate() {
-        if !is_blank(*x) {
-            return &s[i..];
-        }
-    }
-    &s[s.len()..]
-}
-
-// What stands before the first blank, and the rest.
-fn split_word(s: &[u8]) -> (&[u8], &[u8])
-    ensures front { result.0.now ≡ up_to blank s.now }
-    ensures back { result.1.now ≡ from blank s.now }
-{
-    for (i, x) in s.iter().enumerate() {
-        if is_blank(*x) {
-            return s.split_at(i);
-        }
-    }
-    s.split_at(s.len())
-}
-
-// The first word, which is empty if there is none, and the rest.
-pub(crate) fn next_word(s: &[u8]) -> (&[u8], &[u8])
-    ensures { Took (words_of s.now) result.0.now (words_of result.1.now) }
-{
-    split_word(skip_blanks(s))
-}
-
-pub(crate) fn is_same(a: &[u8], b: &[u8]) -> bool
-    ensures { result ≡ bytes_eq a.now b.now }
-{
-    a == b
+    matches!(b, b' ' | b'\t' | b'\r')
 }
 
 // One more digit after those that make `n`.
@@ -64,17 +21,14 @@ fn one_more(n: u16, byte: u8, limit: u16) -> Option<u16>
     ensures value { result ≡ digit_after limit n byte }
     ensures bound { IfSome result (λ m. m ≤ limit) }
 {
-    if byte < b'0' || byte > b'9' {
+    if !byte.is_ascii_digit() {
         return None;
     }
-    let more = u32::from(n) * 10 + u32::from(byte - b'0');
-    if more > u32::from(limit) {
-        return None;
-    }
-    Some(more as u16)
+    let more = n.checked_mul(10)?.checked_add(u16::from(byte - b'0'))?;
+    (more <= limit).then_some(more)
 }
 
-// A decimal number of at most `limit`.
+// A decimal number of at most `limit`. Kept: the library's `parse` takes a plus sign as well.
 pub(crate) fn number(word: &[u8], limit: u16) -> Option<u16>
     ensures value { result ≡ numeral limit word.now }
     ensures bound { IfSome result (λ n. n ≤ limit) }
@@ -83,8 +37,8 @@ pub(crate) fn number(word: &[u8], limit: u16) -> Option<u16>
         return None;
     }
     let mut n = 0;
-    for x in word {
-        n = one_more(n, *x, limit)?;
+    for byte in word {
+        n = one_more(n, *byte, limit)?;
     }
     Some(n)
 }
@@ -100,10 +54,8 @@ fn negated(n: u16) -> i16
 pub(crate) fn signed(word: &[u8]) -> Option<i16>
     ensures { result ≡ signed_in word.now }
 {
-    if !word.is_empty() && word[0] == b'-' {
-        let n = number(&word[1..], 32768)?;
-        return Some(negated(n));
+    match word {
+        [b'-', digits @ ..] => number(digits, 32768).map(negated),
+        _ => number(word, 32767).map(|n| n as i16),
     }
-    let n = number(word, 32767)?;
-    Some(n as i16)
 }

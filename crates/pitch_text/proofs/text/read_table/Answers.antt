@@ -1,28 +1,39 @@
-use Rattle.std.proofs.Common.{◌≡◌, ◌<◌, false, eqb, length, sym, ap, ◌∙◌, arith, rules}
-use Rattle.std.proofs.lemmas.Bool.Decides.{nat_tests}
-use Rattle.pitch_text.specs.Words.{lines_of}
-use Rattle.pitch_text.specs.Text.{sofar_of, read_text}
-use Rattle.pitch_text.proofs.Texts.{after_less, read_line, refused, one_line, read_end}
+use Rattle.std.proofs.Common.{◌≡◌, ◌<◌, ◌≤◌, ◌+◌, length, get_or, Ok, Err, arith, rules, tests}
+use Rattle.std.proofs.lemmas.List.{length_push}
+use Rattle.pitch_text.specs.declared.text.What.{What}
+use Rattle.pitch_text.specs.Words.{before, lines_of}
+use Rattle.pitch_text.specs.Text.{statement_in, line_taken, sofar_of, read_text}
+use Rattle.pitch_text.proofs.Texts.{lines_le, read_line, refused, read_end}
+use Rattle.pitch_text.proofs.Pieces.{piece_turn, piece_end}
 use Rattle.pitch_text.proofs.text.read_table.Goals as goal
+use Rattle.pitch_text.proofs.text.read_table.Goals.{In-Some}
 
-pub returns-in-Err : goal.returns-in-Err
-returns-in-Err c =
-    let test : eqb (length c.loop-rest.rest.now) 0 ≡ false = sym c.is_empty.ensures ∙ c.loop-rest-test.true in
-    refused c.loop-rest.line (sofar_of c.loop-rest.reading) c.loop-rest.rest.now c.cut.result.0.now c.cut.result.1.now (read_text c.args.text.now) (grind (arith, nat_tests)) c.cut.ensures.front c.cut.ensures.back c.loop-rest.invariant.0 c.in-Err.what c.in-Err.ensures _ c.loop-rest.invariant.2
+turn : (c : In-Some) → (length c.loop-piece.yielded < length (lines_of c.args.text.now)) × (before 10 c.in-Some.piece.now ≡ get_or (lines_of c.args.text.now) (length c.loop-piece.yielded) (before 10 c.in-Some.piece.now))
+turn c = piece_turn _ _ _ _ c.args.text.now c.loop-piece.yielded c.next.result c.loop-piece.yielded_by (search rules) (search rules) (λ x b q k. search (rules, tests)) c.next.ensures.steps c.in-Some.piece c.in-Some.is
 
-pub loop-rest-smaller : goal.loop-rest-smaller
-loop-rest-smaller c =
-    let some : 0 < length c.loop-rest.rest.now = search rules in
-    omega (arith, ap length c.cut.ensures.back, after_less c.loop-rest.rest.now some)
+pub overflow_add-line : goal.overflow_add-line
+overflow_add-line c =
+    let within : c.loop-piece.line + 1 ≤ length c.args.text.now = omega (arith, (turn c).0, lines_le c.args.text.now) in
+    search rules
 
-pub loop-rest-preserved : goal.loop-rest-preserved
-loop-rest-preserved c =
-    let some : 0 < length c.loop-rest.rest.now = search rules in (
-      read_line c.loop-rest.line (sofar_of c.loop-rest.reading) c.loop-rest.rest.now c.cut.result.0.now c.cut.result.1.now (read_text c.args.text.now) some c.cut.ensures.front c.cut.ensures.back c.loop-rest.invariant.0 (sofar_of c.in-Ok.next) c.in-Ok.ensures,
-      omega (arith, ap length c.cut.ensures.back, after_less c.loop-rest.rest.now some, c.loop-rest.invariant.1),
-      one_line c.loop-rest.line _ c.loop-rest.rest.now c.cut.result.1.now some c.cut.ensures.back c.loop-rest.invariant.2,
+pub returns-in_err-reading : goal.returns-in_err-reading
+returns-in_err-reading c =
+    let t = turn (goal.at.returns-in_err-reading c).In-Some in
+    let failed : (w : What) × (c.take.result ≡ Err w) × (c.from_residual.result ≡ Err (record { line = c.loop-piece.line + 1; what = w })) = search rules in
+    let first : before 10 c.in-Some.piece.now ≡ get_or (lines_of c.args.text.now) c.loop-piece.line (before 10 c.in-Some.piece.now) = rw c.loop-piece.invariant.0 t.1 in
+    let answer = rw (failed.1, c.before-in-loop-piece.ensures) at c.take.ensures in
+    rw failed.2 (refused c.loop-piece.line (sofar_of c.loop-piece.reading) (lines_of c.args.text.now) (before 10 c.in-Some.piece.now) (read_text c.args.text.now) (omega arith) first c.loop-piece.invariant.1 failed.0 answer)
+
+pub loop-piece-preserved : goal.loop-piece-preserved
+loop-piece-preserved c =
+    let t = turn (goal.at.loop-piece-preserved c).In-Some in
+    let took : line_taken (statement_in (before 10 c.in-Some.piece.now)) (sofar_of c.loop-piece.reading) ≡ Ok (sofar_of c.in_ok-reading.reading) = search rules in
+    let first : before 10 c.in-Some.piece.now ≡ get_or (lines_of c.args.text.now) c.loop-piece.line (before 10 c.in-Some.piece.now) = rw c.loop-piece.invariant.0 t.1 in (
+      omega (arith, length_push c.loop-piece.yielded c.in-Some.piece),
+      read_line c.loop-piece.line (sofar_of c.loop-piece.reading) (lines_of c.args.text.now) (before 10 c.in-Some.piece.now) (read_text c.args.text.now) (omega arith) first c.loop-piece.invariant.1 (sofar_of c.in_ok-reading.reading) took,
     )
 
 pub returns : goal.returns
 returns c =
-    rw (read_end c.loop-rest.line (sofar_of c.loop-rest.reading) c.loop-rest.rest.now (read_text c.args.text.now) (search rules) c.loop-rest.invariant.0) at (c.table_of.ensures (length (lines_of c.args.text.now)))
+    let none : length c.loop-piece.yielded ≡ length (lines_of c.args.text.now) = piece_end _ _ _ _ c.args.text.now c.loop-piece.yielded c.next.result c.loop-piece.yielded_by (search rules) (search rules) (λ x b q k. search (rules, tests)) c.next.ensures.steps c.in-None.is in
+    rw (read_end c.loop-piece.line (sofar_of c.loop-piece.reading) (lines_of c.args.text.now) (read_text c.args.text.now) (omega arith) c.loop-piece.invariant.1) at (c.table_of.ensures (length (lines_of c.args.text.now)))

@@ -4,16 +4,16 @@ use Rattle.pitch_text.proofs.words.number.Goals as goal
 
 pub returns-in_err-n : goal.returns-in_err-n
 returns-in_err-n c = rw c.from_residual.ensures (record {
-  value = sym (numeral_some c.args.limit c.args.word.now (search rules) ∙ (c.loop-x.invariant.0 ∙ read_stop c.args.limit c.loop-x.n c.args.word.now c.loop-x.x-index (search rules) (sym c.in_err-n.ensures.value)));
+  value = sym (numeral_some c.args.limit c.args.word.now (search rules) ∙ (c.loop-byte.invariant.0 ∙ read_stop c.args.limit c.loop-byte.n c.args.word.now c.loop-byte.byte-index (search rules) (sym c.in_err-n.ensures.value)));
   bound = tt;
 })
 
-pub loop-x-preserved : goal.loop-x-preserved
-loop-x-preserved c =
-    (c.loop-x.invariant.0 ∙ read_more c.args.limit c.loop-x.n c.in_ok-n.n c.args.word.now c.loop-x.x-index (search rules) (sym c.in_ok-n.ensures.value), c.in_ok-n.ensures.bound)
+pub loop-byte-preserved : goal.loop-byte-preserved
+loop-byte-preserved c =
+    (c.loop-byte.invariant.0 ∙ read_more c.args.limit c.loop-byte.n c.in_ok-n.n c.args.word.now c.loop-byte.byte-index (search rules) (sym c.in_ok-n.ensures.value), c.in_ok-n.ensures.bound)
 
 pub returns : goal.returns
 returns c = record {
-  value = sym (numeral_some c.args.limit c.args.word.now (search rules) ∙ (c.loop-x.invariant.0 ∙ read_all c.args.limit c.loop-x.n c.args.word.now c.loop-x.x-index (search rules)));
-  bound = c.loop-x.invariant.1;
+  value = sym (numeral_some c.args.limit c.args.word.now (search rules) ∙ (c.loop-byte.invariant.0 ∙ read_all c.args.limit c.loop-byte.n c.args.word.now c.loop-byte.byte-index (search rules)));
+  bound = c.loop-byte.invariant.1;
 }
