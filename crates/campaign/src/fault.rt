@@ -1,6 +1,10 @@
 // Why the program stopped.
+use cutting::coder::Short;
+use rules::line_rule::RowFault;
 use std::alloc::AllocError;
 use std::{fmt, io};
+
+const NO_FRAGMENT: &str = "no such fragment";
 
 /// What the program says when it stops before its end. It keeps the whole text, however long a path in it is.
 #[derive(Debug, Drop)]
@@ -13,6 +17,13 @@ pub enum Fault {
     Memory(AllocError),
     /// A stream could not be read or written.
     Stream(io::Error),
+}
+
+impl Fault {
+    /// A refusal with this text, or no memory where there is none for the text.
+    pub fn refused(text: Result<String, AllocError>) -> Result<Fault, Fault> {
+        Ok(Fault::Refused(text?))
+    }
 }
 
 impl fmt::Display for Fault {
@@ -35,5 +46,17 @@ impl From<AllocError> for Fault {
 impl From<io::Error> for Fault {
     fn from(e: io::Error) -> Fault {
         Fault::Stream(e)
+    }
+}
+
+impl From<RowFault> for Fault {
+    fn from(_e: RowFault) -> Fault {
+        Fault::Said(NO_FRAGMENT)
+    }
+}
+
+impl From<Short> for Fault {
+    fn from(_e: Short) -> Fault {
+        Fault::Said(NO_FRAGMENT)
     }
 }

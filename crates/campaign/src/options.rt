@@ -2,6 +2,7 @@
 use crate::fault::Fault;
 use coding::LARGEST_FRAGMENT;
 use std::env;
+use std::num::ParseIntError;
 
 const USAGE: &str =
     "usage: campaign TABLE [SIZE [SPARES]]: a pitch table's file, bytes in a fragment (1 to 239), fragments to spare";
@@ -19,25 +20,24 @@ const SIZE: u8 = 48;
 
 const SPARES: u16 = 8;
 
+impl From<ParseIntError> for Fault {
+    fn from(_e: ParseIntError) -> Fault {
+        Fault::Said(USAGE)
+    }
+}
+
 /// The options, or how to give them.
 pub(crate) fn read_options(rt: &HostRuntime) -> Result<Options, Fault> {
     let mut args = env::args(rt)?;
     let _ = args.next();
-    let Some(table) = args.next() else {
-        return Err(Fault::Said(USAGE));
-    };
-    let size = match args.next() {
-        Some(text) => text.as_str().parse::<u8>(),
-        None => Ok(SIZE),
-    };
-    let spares = match args.next() {
-        Some(text) => text.as_str().parse::<u16>(),
-        None => Ok(SPARES),
-    };
-    let (Ok(size), Ok(spares), None) = (size, spares, args.next()) else {
-        return Err(Fault::Said(USAGE));
-    };
-    if size == 0 || size > LARGEST_FRAGMENT {
+    let table = args.next().ok_or(Fault::Said(USAGE))?;
+    let size = args
+        .next()
+        .map_or(Ok(SIZE), |text| text.as_str().parse::<u8>())?;
+    let spares = args
+        .next()
+        .map_or(Ok(SPARES), |text| text.as_str().parse::<u16>())?;
+    if args.next().is_some() || !(1..=LARGEST_FRAGMENT).contains(&size) {
         return Err(Fault::Said(USAGE));
     }
     Ok(Options {

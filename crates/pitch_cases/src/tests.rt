@@ -12,17 +12,15 @@ const BLOCK: [u8; 16] = [
 ];
 
 fn block_fault(heap: Global, block: &[u8]) -> Option<PitchFault> {
-    match unpack(heap, block) {
-        Ok(_) => None,
-        Err(fault) => Some(fault),
-    }
+    unpack(heap, block).err()
 }
 
 fn text_fault(heap: Global, text: &str) -> Option<TextFault> {
-    match read_table(heap, text.as_bytes()) {
-        Ok(_) => None,
-        Err(fault) => Some(fault),
-    }
+    read_table(heap, text.as_bytes()).err()
+}
+
+fn at(line: usize, what: What) -> Option<TextFault> {
+    Some(TextFault { line, what })
 }
 
 #[test]
@@ -63,48 +61,12 @@ fn damaged_blocks(rt: HostRuntime) {
 fn lines_of_bad_text(rt: HostRuntime) {
     let heap = rt.alloc();
     assert_eq!(rt; text_fault(heap, TEXT), None);
-    assert_eq!(rt;
-        text_fault(heap, ""),
-        Some(TextFault {
-            line: 0,
-            what: What::Missing,
-        })
-    );
-    assert_eq!(rt;
-        text_fault(heap, "axis X\n\n"),
-        Some(TextFault {
-            line: 2,
-            what: What::Missing,
-        })
-    );
-    assert_eq!(rt;
-        text_fault(heap, "axis x\n"),
-        Some(TextFault {
-            line: 1,
-            what: What::Axis,
-        })
-    );
-    assert_eq!(rt;
-        text_fault(heap, "axis X\nscrew 65536"),
-        Some(TextFault {
-            line: 2,
-            what: What::Screw,
-        })
-    );
-    assert_eq!(rt;
-        text_fault(heap, "\naxis X\n1 2\n"),
-        Some(TextFault {
-            line: 3,
-            what: What::Early,
-        })
-    );
-    assert_eq!(rt;
-        text_fault(heap, "axis X\naxis X\n"),
-        Some(TextFault {
-            line: 2,
-            what: What::Twice,
-        })
-    );
+    assert_eq!(rt; text_fault(heap, ""), at(0, What::Missing));
+    assert_eq!(rt; text_fault(heap, "axis X\n\n"), at(2, What::Missing));
+    assert_eq!(rt; text_fault(heap, "axis x\n"), at(1, What::Axis));
+    assert_eq!(rt; text_fault(heap, "axis X\nscrew 65536"), at(2, What::Screw));
+    assert_eq!(rt; text_fault(heap, "\naxis X\n1 2\n"), at(3, What::Early));
+    assert_eq!(rt; text_fault(heap, "axis X\naxis X\n"), at(2, What::Twice));
 }
 
 #[test]
@@ -112,31 +74,19 @@ fn bad_errors(rt: HostRuntime) -> Result<(), Fail> {
     let heap = rt.alloc();
     assert_eq!(rt;
         text_fault(heap, "screw 1\naxis Z\n-32768 32768"),
-        Some(TextFault {
-            line: 3,
-            what: What::Number,
-        })
+        at(3, What::Number)
     );
     assert_eq!(rt;
         text_fault(heap, "screw 1\naxis Z\n+1 0"),
-        Some(TextFault {
-            line: 3,
-            what: What::Number,
-        })
+        at(3, What::Number)
     );
     assert_eq!(rt;
         text_fault(heap, "screw 1\naxis Z\n- 0"),
-        Some(TextFault {
-            line: 3,
-            what: What::Number,
-        })
+        at(3, What::Number)
     );
     assert_eq!(rt;
         text_fault(heap, "screw 1\naxis Z\n1 2 3"),
-        Some(TextFault {
-            line: 3,
-            what: What::Words,
-        })
+        at(3, What::Words)
     );
     let fault = TextFault {
         line: 3,

@@ -1,0 +1,75 @@
+// A block cut into fragments, and its fragments as lines.
+use crate::fault::Fault;
+use cutting::coder::code_into;
+use cutting::layout::{Layout, layout_of};
+use rules::line_rule::LineRule;
+use rules::places::Places;
+use rules::published::Published;
+
+// The FragAlgo of the published rule.
+const ALGO: u8 = 0;
+
+/// A block, how it is cut, and room for one fragment and its row.
+#[derive(Drop)]
+pub struct Cut {
+    block: Vec<u8>,
+    layout: Layout,
+    row: Vec<bool>,
+    fragment: Vec<u8>,
+}
+
+impl Cut {
+    /// Cuts the block into fragments of `size` bytes, or says why it cannot be.
+    pub fn plan(rt: &HostRuntime, block: Vec<u8>, size: u8) -> Result<Cut, Fault> {
+        let heap = rt.alloc();
+        let length = block.len();
+        let layout = u32::try_from(length)
+            .ok()
+            .and_then(|length| layout_of(length, size))
+            .try_ok_or_else(|| Fault::refused(format!(in heap;
+                "{length} bytes are more than 256 fragments of {size} bytes: choose a larger size"
+            )))?;
+        let m = layout.fragments;
+        if !Published.serves(ALGO, m) {
+            return Err(Fault::refused(format!(in heap;
+                "{m} fragments of {size} bytes are too few for the published rule: choose a smaller size"
+            ))?);
+        }
+        let padding = layout.padding;
+        println!(rt;
+            "cut: {m} fragments of {size} bytes, the last with {padding} bytes of filler"
+        )?;
+        Ok(Cut {
+            block,
+            layout,
+            row: vec![in heap; false; usize::from(m)]?,
+            fragment: vec![in heap; 0; usize::from(size)]?,
+        })
+    }
+
+    /// How many fragments the block has.
+    pub fn fragments(&self) -> u16 {
+        self.layout.fragments
+    }
+
+    /// Prints fragment `n`.
+    pub fn print(&mut self, rt: &HostRuntime, n: u16) -> Result<(), Fault> {
+        let m = self.fragments();
+        let size = self.fragment.len();
+        Published.fill(ALGO, m, n, self.row.as_mut_slice())?;
+        code_into(
+            self.block.as_slice(),
+            size,
+            self.row.as_slice(),
+            self.fragment.as_mut_slice(),
+        )?;
+        let hex = hex::encode(rt.alloc(), self.fragment.as_slice())?;
+        if n <= m {
+            println!(rt; "{n:>5}  {hex}")?;
+        } else {
+            let places = Places(self.row.as_slice());
+            println!(rt; "{n:>5}  {hex} = sum of{places}")?;
+        }
+        Ok(())
+    }
+}
