@@ -3,28 +3,17 @@ use Rattle.std.proofs.Common.{◌≡◌, ℕ, zero, suc, ◌+◌, ◌*◌, ◌/�
 use Rattle.std.specs.List.{range_with_len, flat_map, AllByRecursion as All}
 use Rattle.std.specs.Simd.{first_chunks}
 use Rattle.std.proofs.lemmas.List.FromFn.{length-map-range_with_len}
-use Rattle.std.proofs.ByRecursion.{All-more}
 use Rattle.std.proofs.lemmas.Bool.Decides.{nat_tests}
 use Rattle.std.proofs.lemmas.Int.{of_z-to_z}
 use Rattle.pitch.specs.declared.table.Axis.{Axis}
 use Rattle.pitch.specs.declared.table.Axis.TheVariants.{X, Y, Z}
-use Rattle.pitch.specs.Block.{Parts, code, four_of, head_of, block_of, entry_at, entry_of, entry_in, entries_in, screw_in, count_in, axis_of, headed, parsed}
-use Rattle.std.proofs.lemmas.List.{flat_map_more, take_more, drop_more, drop_all, drop-drop, get_or-drop, get_or-take}
+use Rattle.pitch.specs.Block.{Parts, code, four_of, head_of, block_of, entry_at, entry_in, entries_in, screw_in, count_in, axis_of, headed, parsed}
+use Rattle.std.proofs.lemmas.List.{nil_from_length, length-drop, drop_more, drop-drop, get_or-drop, get_or-take}
 use Rattle.pitch.specs.declared.table.Entry.{Entry}
 
 -- the four bytes of an entry give it again, since its numbers have 16 bits
 abbrev pub Fitting : Entry → Type 0
-Fitting e = entry_of (get_or (four_of e) 0 0) (get_or (four_of e) 1 0) (get_or (four_of e) 2 0) (get_or (four_of e) 3 0) ≡ e
-
--- a loop that puts something of each element behind a head, one element more; it reads the elements through a slice, zs
-pub joined_next : {A : Type 0} (put : A → List ℕ) (P : A → Type 0) (head bs cs fs : List ℕ) (es zs : List A) (i : ℕ) (d : A) → zs ≡ es → i < length zs
-    → fs ≡ put (get_or zs i d) → cs ≡ bs ++ fs → P (get_or zs i d) → (bs ≡ head ++ flat_map put (take i es)) × All P (take i es)
-    → (cs ≡ head ++ flat_map put (take (i + 1) es)) × All P (take (i + 1) es)
-joined_next put P head bs cs fs es zs i d same h is new fits old =
-    let h' : i < length es = rw same at h in
-    let e : fs ≡ put (get_or es i d) = rw same at is in
-    let f : P (get_or es i d) = rw same at fits in
-    (new ∙ (rw (old.0, e) (flat_map_more put head (take i es) (get_or es i d) ∙ sym (ap (λ xs. head ++ flat_map put xs) (take_more es i d h')))), All-more P es i d h' old.1 f)
+Fitting e = entry_in (four_of e) ≡ e
 
 -- the millimetres of a block, four bytes at a time
 module _ (bs : List ℕ) where
@@ -63,24 +52,18 @@ low a b h k = let e : of_z w16 (to_z w16 (a + b * 256)) ≡ a + b * 256 = of_z-t
 high : (a b : ℕ) → a < 256 → b < 256 → of_z w16 (to_z w16 (a + b * 256)) / 256 % 256 ≡ b
 high a b h k = let e : of_z w16 (to_z w16 (a + b * 256)) ≡ a + b * 256 = of_z-to_z w16 (a + b * 256) (omega arith) in rw e (omega arith)
 
+-- the bytes of the entries that fours of bytes make are those bytes
+body_back : (n : ℕ) (body : List ℕ) → length body ≡ 4 * n → ((i : ℕ) → get_or body i 0 < 256) → flat_map four_of (map entry_in (first_chunks 4 n body)) ≡ body
+body_back zero body len small = sym (nil_from_length body len)
+body_back (suc n) [] len small = absurd (omega arith)
+body_back (suc n) (a ∷ []) len small = absurd (omega arith)
+body_back (suc n) (a ∷ b ∷ []) len small = absurd (omega arith)
+body_back (suc n) (a ∷ b ∷ c ∷ []) len small = absurd (omega arith)
+body_back (suc n) (a ∷ b ∷ c ∷ d ∷ rest) len small =
+    rw (low a b (small 0) (small 1), high a b (small 0) (small 1), low c d (small 2) (small 3), high c d (small 2) (small 3), body_back n rest (omega arith) (λ i. small (suc (suc (suc (suc i))))))
+
 -- a list of bytes that unpacks is the block of what it unpacks to
 module _ (bs : List ℕ) (small : (i : ℕ) → get_or bs i 0 < 256) where
-  at : (i j : ℕ) → i ≡ j → get_or bs i 0 ≡ get_or bs j 0
-  at i j e = ap (λ k. get_or bs k 0) e
-
-  four_back : (k : ℕ) → 12 + 4 * k ≤ length bs → drop (8 + 4 * k) bs ≡ four_of (entry_at bs k) ++ drop (8 + 4 * (k + 1)) bs
-  four_back k h =
-      let m : ℕ = 8 + 4 * k in
-      let p0 : drop m bs ≡ get_or bs m 0 ∷ drop (m + 1) bs = drop_more bs m 0 (omega arith) in
-      let p1 : drop (m + 1) bs ≡ get_or bs (9 + 4 * k) 0 ∷ drop (m + 2) bs = drop_more bs (m + 1) 0 (omega arith) ∙ rw (at (m + 1) (9 + 4 * k) (omega arith)) (ap (λ i. get_or bs (9 + 4 * k) 0 ∷ drop i bs) (omega arith)) in
-      let p2 : drop (m + 2) bs ≡ get_or bs (10 + 4 * k) 0 ∷ drop (m + 3) bs = drop_more bs (m + 2) 0 (omega arith) ∙ rw (at (m + 2) (10 + 4 * k) (omega arith)) (ap (λ i. get_or bs (10 + 4 * k) 0 ∷ drop i bs) (omega arith)) in
-      let p3 : drop (m + 3) bs ≡ get_or bs (11 + 4 * k) 0 ∷ drop (8 + 4 * (k + 1)) bs = drop_more bs (m + 3) 0 (omega arith) ∙ rw (at (m + 3) (11 + 4 * k) (omega arith)) (ap (λ i. get_or bs (11 + 4 * k) 0 ∷ drop i bs) (omega arith)) in
-      p0 ∙ rw (p1, p2, p3, low (get_or bs (8 + 4 * k) 0) (get_or bs (9 + 4 * k) 0) (small _) (small _), high (get_or bs (8 + 4 * k) 0) (get_or bs (9 + 4 * k) 0) (small _) (small _), low (get_or bs (10 + 4 * k) 0) (get_or bs (11 + 4 * k) 0) (small _) (small _), high (get_or bs (10 + 4 * k) 0) (get_or bs (11 + 4 * k) 0) (small _) (small _))
-
-  body_back : (n k : ℕ) → length bs ≡ 8 + 4 * (k + n) → flat_map four_of (map (entry_at bs) (range_with_len k n)) ≡ drop (8 + 4 * k) bs
-  body_back zero k h = sym (drop_all (8 + 4 * k) bs (omega arith))
-  body_back (suc n) k h = rw (body_back n (k + 1) (omega arith)) (sym (four_back k (omega arith)))
-
   axis_back : (b : ℕ) (a : Axis) → axis_of b ≡ Some a → code a ≡ b
   axis_back b X e = grind (arith, nat_tests)
   axis_back b Y e = grind (arith, nat_tests)
@@ -88,7 +71,7 @@ module _ (bs : List ℕ) (small : (i : ℕ) → get_or bs i 0 < 256) where
 
   whole : (a : Axis) → 8 ≤ length bs → get_or bs 0 0 ≡ 80 → get_or bs 1 0 ≡ 84 → get_or bs 7 0 ≡ 0 → axis_of (get_or bs 2 0) ≡ Some a → length bs ≡ 8 + 4 * count_in bs → bs ≡ block_of (record { axis = a; screw = screw_in bs; entries = entries_in bs (count_in bs) })
   whole a long b0 b1 b7 name len =
-      let rest : flat_map four_of (entries_in bs (count_in bs)) ≡ drop 8 bs = body_back (count_in bs) 0 (omega arith) in
+      let rest : flat_map four_of (entries_in bs (count_in bs)) ≡ drop 8 bs = ap (flat_map four_of) (sym (entries_from bs (drop 8 bs) 0 (count_in bs) refl)) ∙ body_back (count_in bs) (drop 8 bs) (omega (arith, length-drop 8 bs)) (λ i. rw get_or-drop (small (8 + i))) in
       let n : length (entries_in bs (count_in bs)) ≡ count_in bs = length-map-range_with_len (entry_at bs) 0 (count_in bs) in
       let p0 : drop 0 bs ≡ get_or bs 0 0 ∷ drop 1 bs = drop_more bs 0 0 (omega arith) in
       let p1 : drop 1 bs ≡ get_or bs 1 0 ∷ drop 2 bs = drop_more bs 1 0 (omega arith) in
@@ -116,21 +99,9 @@ pub record Sound (p : Parts) : Type 0 where
   pub screw : p.screw < 65536
   pub fits : All Fitting p.entries
 
-entry_back : (bs rest : List ℕ) (k : ℕ) (e : Entry) → Fitting e → drop (8 + 4 * k) bs ≡ four_of e ++ rest → entry_at bs k ≡ e
-entry_back bs rest k e f d =
-    let g : (j : ℕ) → get_or (four_of e ++ rest) j 0 ≡ get_or bs (8 + 4 * k + j) 0 = λ j. ap (λ xs. get_or xs j 0) (sym d) ∙ get_or-drop (8 + 4 * k) bs j 0 in
-    let a0 : get_or bs (8 + 4 * k) 0 ≡ of_z w16 e.forward % 256 = ap (λ i. get_or bs i 0) (omega arith) ∙ sym (g 0) in
-    let a1 : get_or bs (9 + 4 * k) 0 ≡ of_z w16 e.forward / 256 % 256 = ap (λ i. get_or bs i 0) (omega arith) ∙ sym (g 1) in
-    let a2 : get_or bs (10 + 4 * k) 0 ≡ of_z w16 e.back % 256 = ap (λ i. get_or bs i 0) (omega arith) ∙ sym (g 2) in
-    let a3 : get_or bs (11 + 4 * k) 0 ≡ of_z w16 e.back / 256 % 256 = ap (λ i. get_or bs i 0) (omega arith) ∙ sym (g 3) in
-    rw (a0, a1, a2, a3) f
-
-entries_back : (bs : List ℕ) (es : List Entry) (k : ℕ) → All Fitting es → drop (8 + 4 * k) bs ≡ flat_map four_of es → map (entry_at bs) (range_with_len k (length es)) ≡ es
-entries_back bs [] k fits d = refl
-entries_back bs (e ∷ es) k fits d =
-    let here : entry_at bs k ≡ e = entry_back bs (flat_map four_of es) k e fits.0 d in
-    let next : drop (8 + 4 * (k + 1)) bs ≡ flat_map four_of es = ap (λ n. drop n bs) (omega arith) ∙ (sym (drop-drop 4 (8 + 4 * k) bs) ∙ ap (drop 4) d) in
-    rw (here, entries_back bs es (k + 1) fits.1 next)
+entries_back : (es : List Entry) → All Fitting es → map entry_in (first_chunks 4 (length es) (flat_map four_of es)) ≡ es
+entries_back [] fits = refl
+entries_back (e ∷ es) fits = rw (fits.0, entries_back es fits.1)
 
 axis_again : (a : Axis) → axis_of (code a) ≡ Some a
 axis_again X = refl
@@ -157,6 +128,6 @@ parsed_block p sound =
     let n : count_in (block_of p) ≡ length p.entries = two_bytes (length p.entries) (omega (arith, sound.few)) in
     let s : screw_in (block_of p) ≡ p.screw = two_bytes p.screw sound.screw in
     let long : length (block_of p) ≡ 8 + 4 * count_in (block_of p) = omega (arith, n, length_body p.entries) in
-    let es : map (entry_at (block_of p)) (range_with_len 0 (length p.entries)) ≡ p.entries = entries_back (block_of p) p.entries 0 sound.fits refl in
+    let es : map (entry_at (block_of p)) (range_with_len 0 (length p.entries)) ≡ p.entries = sym (entries_from (block_of p) (flat_map four_of p.entries) 0 (length p.entries) refl) ∙ entries_back p.entries sound.fits in
     let head : headed (block_of p) ≡ true = grind (arith, nat_tests) in
     parsed_if (block_of p) p.axis head (axis_again p.axis) (omega (arith, n, sound.few)) long ∙ rw (n, s, es)

@@ -23,6 +23,7 @@ pub enum PitchFault {
     Length,
 }
 
+// Kept: two impls, since the library has two errors of memory, and a clause names what `?` makes of each.
 impl From<AllocError> for PitchFault {
     ghost from_gives = { λ _ r. r ≡ Memory };
 

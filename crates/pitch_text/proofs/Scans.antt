@@ -122,16 +122,7 @@ module _ {S A B : Type 0} (steps : S → Option A → S → Type 0) (v : A → B
 pub three : {S A B : Type 0} {steps : S → Option A → S → Type 0} {s t u w : S} {P : Run steps → Type 0} {all : List B} (v : A → B) (a b c : Option A) → EachRunFrom steps s P → YieldsList steps v s all → steps s a t → steps t b u → steps u c w → Three v a b c all
 three {steps} v a b c runs road one two last = three_of steps v a b c _ _ _ _ _ road.runs one two last
 
--- a number, a digit at a time
-pub read_more : (limit n m : ℕ) (xs : List ℕ) (i : ℕ) → i < length xs → digit_after limit n (get_or xs i 0) ≡ Some m → read_on limit n (drop i xs) ≡ read_on limit m (drop (i + 1) xs)
-read_more limit n m xs i h e = ap (read_on limit n) (drop_more xs i 0 h) ∙ rw e
-
-pub read_stop : (limit n : ℕ) (xs : List ℕ) (i : ℕ) → i < length xs → digit_after limit n (get_or xs i 0) ≡ None → read_on limit n (drop i xs) ≡ None
-read_stop limit n xs i h e = ap (read_on limit n) (drop_more xs i 0 h) ∙ rw e
-
-pub read_all : (limit n : ℕ) (xs : List ℕ) (i : ℕ) → length xs ≤ i → read_on limit n (drop i xs) ≡ Some n
-read_all limit n xs i h = ap (read_on limit n) (drop_all i xs h)
-
+-- a word with a byte in it
 pub numeral_some : (limit : ℕ) (xs : List ℕ) → 0 < length xs → numeral limit xs ≡ read_on limit 0 xs
 numeral_some limit [] h = absurd (omega arith)
 numeral_some limit (x ∷ xs) h = refl

@@ -1,15 +1,10 @@
 use Rattle.std.proofs.Common.{◌≡◌, ◌++◌, take, vec_items, string_bytes, ap, ◌∙◌, rules}
 use Rattle.std.specs.List.{flat_map, AllByRecursion as All}
 use Rattle.std.proofs.lemmas.List.{take_all}
-use Rattle.pitch.proofs.Blocks.{joined_next}
 use Rattle.pitch.specs.Block.{parts_of}
 use Rattle.pitch_text.specs.Text.{head_lines, line_of, text_of}
 use Rattle.pitch_text.proofs.Shows.{Fits16, text_back}
 use Rattle.pitch_text.proofs.show.show.Goals as goal
-
-pub loop-e-preserved : goal.loop-e-preserved
-loop-e-preserved c =
-    joined_next line_of Fits16 (head_lines c.args.table.now.axis c.args.table.now.screw) (string_bytes c.loop-e.out) (string_bytes c.push_str.new.self) (string_bytes c.in_ok-line.line) (vec_items c.args.table.now.entries) c.deref-e-items.result.now c.loop-e.e-index _ c.deref-e-items.ensures.value c.loop-e-test.true c.in_ok-line.ensures.bytes (c.in_ok-push_str.ensures.bytes ∙ ap (λ xs. string_bytes c.loop-e.out ++ xs) c.as_str.ensures.value) c.line_of.ensures.fits c.loop-e.invariant
 
 pub returns : goal.returns
 returns c =
