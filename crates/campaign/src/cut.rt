@@ -26,14 +26,10 @@ impl Cut {
         let layout = u32::try_from(length)
             .ok()
             .and_then(|length| layout_of(length, size))
-            .try_ok_or_else(|| Fault::refused(format!(in heap;
-                "{length} bytes are more than 256 fragments of {size} bytes: choose a larger size"
-            )))?;
+            .ok_or(Fault::Large { length, size })?;
         let m = layout.fragments;
         if !Published.serves(ALGO, m) {
-            return Err(Fault::refused(format!(in heap;
-                "{m} fragments of {size} bytes are too few for the published rule: choose a smaller size"
-            ))?);
+            return Err(Fault::Small { fragments: m, size });
         }
         let padding = layout.padding;
         println!(rt;

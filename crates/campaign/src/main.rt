@@ -17,13 +17,15 @@ use std::process::ExitCode;
 // The block of the table in a file.
 fn block_of(rt: &HostRuntime, path: &str) -> Result<Vec<u8>, Fault> {
     let heap = rt.alloc();
-    let text = fs::read(rt, path).try_map_err(|_| {
-        Fault::refused(format!(in heap; "{path}: cannot be read"))
-    })?;
+    let named = || String::from_str(heap, path);
+    let text = fs::read(rt, path).try_map_err(|_| Ok(Fault::Unread { path: named()? }))?;
     let table = read_table(heap, text.as_slice()).try_map_err(|fault| {
-        Fault::refused(format!(in heap; "{path}: {fault}"))
+        Ok(Fault::Text {
+            path: named()?,
+            fault,
+        })
     })?;
-    let block = pack(heap, &table).map_err(|_| Fault::Said("no memory for the block"))?;
+    let block = pack(heap, &table).map_err(|_| Fault::Block)?;
     let millimetres = table.entries.len();
     let axis = table.axis;
     let screw = table.screw;
@@ -41,10 +43,10 @@ fn run(rt: &HostRuntime) -> Result<(), Fault> {
     let spares = options.spares;
     let last = m.saturating_add(spares);
     if last > LAST {
-        let most = LAST.saturating_sub(m);
-        return Err(Fault::refused(format!(in rt.alloc();
-            "a block of {m} fragments has at most {most} to spare"
-        ))?);
+        return Err(Fault::Spares {
+            fragments: m,
+            most: LAST.saturating_sub(m),
+        });
     }
     for n in 1..=last {
         cut.print(rt, n)?;

@@ -2,10 +2,6 @@
 use crate::fault::Fault;
 use coding::LARGEST_FRAGMENT;
 use std::env;
-use std::num::ParseIntError;
-
-const USAGE: &str =
-    "usage: campaign TABLE [SIZE [SPARES]]: a pitch table's file, bytes in a fragment (1 to 239), fragments to spare";
 
 /// The file of the table, the size of a fragment, and how many fragments to send beyond the block's own.
 #[derive(Drop)]
@@ -20,25 +16,21 @@ const SIZE: u8 = 48;
 
 const SPARES: u16 = 8;
 
-impl From<ParseIntError> for Fault {
-    fn from(_e: ParseIntError) -> Fault {
-        Fault::Said(USAGE)
-    }
-}
-
 /// The options, or how to give them.
 pub(crate) fn read_options(rt: &HostRuntime) -> Result<Options, Fault> {
     let mut args = env::args(rt)?;
     let _ = args.next();
-    let table = args.next().ok_or(Fault::Said(USAGE))?;
+    let table = args.next().ok_or(Fault::Usage)?;
     let size = args
         .next()
-        .map_or(Ok(SIZE), |text| text.as_str().parse::<u8>())?;
+        .map_or(Ok(SIZE), |text| text.as_str().parse::<u8>())
+        .map_err(|_| Fault::Usage)?;
     let spares = args
         .next()
-        .map_or(Ok(SPARES), |text| text.as_str().parse::<u16>())?;
+        .map_or(Ok(SPARES), |text| text.as_str().parse::<u16>())
+        .map_err(|_| Fault::Usage)?;
     if args.next().is_some() || !(1..=LARGEST_FRAGMENT).contains(&size) {
-        return Err(Fault::Said(USAGE));
+        return Err(Fault::Usage);
     }
     Ok(Options {
         table,
