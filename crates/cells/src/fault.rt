@@ -1,6 +1,8 @@
 // Why a store refuses a call.
-ghost use Rattle.std.specs.Prelude.{◌≡◌};
-ghost use Rattle.cells.specs.Refusals.{refusal_at};
+ghost use Rattle.std.specs.Prelude.{◌≡◌, Some};
+ghost use Rattle.cells.specs.Refusals.{refusal_at, fault_text};
+
+use std::fmt;
 
 /// Why a store refuses a call. Each kind holds the cell that was asked for.
 #[derive(Clone, Copy, PartialEq, Eq, Debug)]
@@ -22,6 +24,18 @@ impl StoreFault {
             StoreFault::Place(_) => StoreFault::Place(p),
             StoreFault::Length(_) => StoreFault::Length(p),
             StoreFault::Worn(_) => StoreFault::Worn(p),
+        }
+    }
+}
+
+impl fmt::Display for StoreFault {
+    ghost output = { λ f. Some (fault_text f) };
+
+    fn fmt<W: fmt::Write>(&self, f: &mut fmt::Formatter<W>) -> fmt::Result {
+        match self {
+            StoreFault::Place(p) => write!(f, "place cell={p}"),
+            StoreFault::Length(p) => write!(f, "length cell={p}"),
+            StoreFault::Worn(p) => write!(f, "worn cell={p}"),
         }
     }
 }
