@@ -1,28 +1,26 @@
 -- What a write makes of a page, and of the flash around it. Assumes nothing.
-use Rattle.std.proofs.Common.{◌≡◌, ℕ, ◌+◌, ◌-◌, ◌*◌, ◌/◌, ◌%◌, ◌^◌, ◌<◌, ◌≤◌, true, cond, eqb, ltb, List, [], ◌++◌, length, get_or, take, drop, replicate, Ok, Err, sym, refl, ap, ◌∙◌, ⊎_elim, arith, rules}
+use Rattle.std.proofs.Common.{◌≡◌, ℕ, ◌+◌, ◌-◌, ◌*◌, ◌/◌, ◌%◌, ◌^◌, ◌<◌, ◌≤◌, true, cond, eqb, ltb, List, [], ◌++◌, length, get_or, take, drop, replicate, Ok, Err, sym, refl, ap, ◌∙◌, subst, ⊎_elim, arith, rules}
 use native.Mathlib.Nat.{div-div-eq-div-mul}
-use borrow.Rule.Slice.PartMut.{put_mid, post_of}
+use borrow.Rule.Slice.PartMut.{put_mid}
+use Rattle.std.proofs.Math.Seq.{take-append-add}
 use Rattle.std.proofs.lemmas.List.{places, get_or-append_right, take_at, drop_at, drop_all, append-nil, append_assoc, length-drop, length-append}
 use Rattle.std.proofs.lemmas.Bool.{cases_eq, cond-true, cond-false, eq-eqb, ne_eqb}
 use Rattle.std.proofs.lemmas.Bool.Decides.{nat_tests}
 use Rattle.cells.specs.declared.fault.StoreFault.TheVariants.{Worn}
 use Rattle.cells.specs.Calls.{WroteBy, padded}
 use Rattle.cells.proofs.Answered.{answer_at, told_each}
-use Rattle.bottoms.specs.Parts.{whole_parts, part_room}
+use Rattle.bottoms.specs.Parts.{whole_parts, with_part, put, part_room}
 use Rattle.bottoms.specs.Pages.{erases_left, least_first, page_at, page_of, written_page, takes_after, flash, flash_buffer, PageWrite, FlashLaws}
-use Rattle.bottoms.proofs.Partly.{length_with, part_here, part_there}
+use Rattle.bottoms.proofs.Partly.{put_part, length_with, part_here, part_there}
 
-put_after : (front rest ys : List ℕ) (a k : ℕ) → length front ≡ a → put_mid a k (front ++ rest) ys ≡ front ++ (ys ++ drop k rest)
-put_after front rest ys a k whole = rw (take_at front rest a whole, drop_at front rest a whole) refl
-
--- three writes to a page, one after the other
-pub three_parts : (page front filler tail : List ℕ) → length page ≡ 256 → length front ≡ 239 → length filler ≡ 13 → length tail ≡ 4 → put_mid 252 4 (put_mid 239 13 (front ++ post_of 0 239 page) filler) tail ≡ front ++ (filler ++ tail)
-three_parts page front filler tail a b c d =
-    let first : put_mid 239 13 (front ++ post_of 0 239 page) filler ≡ (front ++ filler) ++ drop 13 (drop 239 page) =
-    put_after front (drop 239 page) filler 239 13 b ∙ sym (append_assoc front filler (drop 13 (drop 239 page))) in
-    let both : length (front ++ filler) ≡ 252 = search (rules, places) in
-    let none : drop 4 (drop 13 (drop 239 page)) ≡ [] = drop_all 4 (drop 13 (drop 239 page)) (simp length-drop (omega arith)) in
-    ap (λ xs. put_mid 252 4 xs tail) first ∙ put_after (front ++ filler) (drop 13 (drop 239 page)) tail 252 4 both ∙ ap (λ xs. (front ++ filler) ++ (tail ++ xs)) none ∙ simp (append-nil, append_assoc)
+-- a page of filler, once its cell and its erases left were put into it
+pub page_made : (cell tail : List ℕ) → length cell ≡ 239 → length tail ≡ 4 → put_mid 252 4 (cell ++ replicate 17 255) tail ≡ cell ++ (replicate 13 255 ++ tail)
+page_made cell tail a b =
+    let all = cell ++ replicate 17 255 in
+    let at : length cell + 13 ≡ 252 = omega arith in
+    let front : take 252 all ≡ cell ++ replicate 13 255 = ap (λ n. take n all) (sym at) ∙ take-append-add cell (replicate 17 255) 13 in
+    let none : drop 4 (drop 252 all) ≡ [] = drop_all 4 (drop 252 all) (simp (length-drop, length-append) (omega arith)) in
+    ap (λ xs. xs ++ (tail ++ drop 4 (drop 252 all))) front ∙ ap (λ ys. (cell ++ replicate 13 255) ++ (tail ++ ys)) none ∙ simp (append-nil, append_assoc)
 
 -- four bytes, least first, are the number again
 four_is : (n : ℕ) → n < 2 ^ 32 → n % 256 + n / 256 % 256 * 256 + n / 65536 % 256 * 65536 + n / 16777216 % 256 * 16777216 ≡ n
@@ -120,5 +118,18 @@ flash_laws = record {
 }
 
 -- what is told of an erase that was there to be spent
-pub spent : (left p x : ℕ) → Ok x ≡ cond (ltb 0 left) (Ok (left - 1)) (Err (Worn p)) → (ltb 0 left ≡ true) × (x ≡ left - 1)
+spent : (left p x : ℕ) → Ok x ≡ cond (ltb 0 left) (Ok (left - 1)) (Err (Worn p)) → (ltb 0 left ≡ true) × (x ≡ left - 1)
 spent left p x e = grind (arith, nat_tests)
+
+-- a page that is put where it lies, with an erase that was spent on it
+module _ (buf bytes : List ℕ) (p left : ℕ) (here : p < whole_parts (length buf) 256) (short : length bytes ≤ 239) (spends : Ok left ≡ cond (ltb 0 (erases_left (page_at buf p))) (Ok (erases_left (page_at buf p) - 1)) (Err (Worn p))) where
+  pub page_put : put buf (p * 256) (page_of bytes left) ≡ flash_buffer buf p bytes
+  unfolding flash_buffer
+  page_put =
+      put_part buf (page_of bytes left) 256 p (part_room (length buf) 256 p (omega arith) here) (length_page bytes left short)
+      ∙ ap (λ n. with_part 256 buf p (page_of bytes n)) (spent (erases_left (page_at buf p)) p left spends).1
+
+  pub page_wrote : (after : List ℕ) → erases_left (page_at buf p) < 4294967296 → after ≡ flash_buffer buf p bytes → WroteBy (flash buf) p bytes (Ok tt) (flash after)
+  page_wrote after small is =
+      subst (λ b. WroteBy (flash buf) p bytes (Ok tt) (flash b)) (sym is)
+      (flash_written buf bytes p (record { place = here; short = short; small = small }) (spent (erases_left (page_at buf p)) p left spends).0)

@@ -1,9 +1,10 @@
 -- Where a part lies, and what another part in its place leaves. Assumes nothing.
-use Rattle.std.proofs.Common.{◌≡◌, ℕ, ◌+◌, ◌-◌, ◌*◌, ◌≤◌, ◌⊎◌, List, ◌++◌, length, take, drop, sym, ap, ◌∙◌, inl, inr, ⊎_elim, mul-le-mul_right, suc-mul, add-one, arith, rules}
-use borrow.Rule.Slice.PartMut.{put_mid}
-use Rattle.std.proofs.lemmas.List.{places, same_lists, drop-drop, take-take}
+use Rattle.std.proofs.Common.{◌≡◌, ℕ, zero, suc, ◌+◌, ◌*◌, ◌<◌, ◌≤◌, ◌⊎◌, List, length, get_or, take, drop, sym, ap, ◌∙◌, inl, inr, ⊎_elim, mul-le-mul_right, zero-mul, suc-mul, add-one, arith, rules}
+use Rattle.std.specs.Simd.{first_chunks}
+use Rattle.std.proofs.lemmas.List.{places, same_lists, drop-drop}
 use Rattle.std.proofs.lemmas.Bool.{cases_order}
-use Rattle.bottoms.specs.Parts.{part_at, with_part}
+use Rattle.cells.specs.Calls.{padded}
+use Rattle.bottoms.specs.Parts.{part_at, with_part, put}
 
 apart : (n p q : ℕ) → (q ≡ p → ⊥) → (q * n + n ≤ p * n) ⊎ (p * n + n ≤ q * n)
 apart n p q ne =
@@ -12,12 +13,13 @@ apart n p q ne =
     (λ h. inr (omega (arith, mul-le-mul_right {m = p + 1} {n = q} n (omega arith), suc-mul p n, ap (λ k. k * n) (add-one p)))))
     (cases_order q p)
 
--- a slice of a buffer, changed through it, in the words of parts
-pub put_part : (buf ys : List ℕ) (n p at : ℕ) → at ≡ p * n → put_mid at (at + n - at) buf ys ≡ with_part n buf p ys
-put_part buf ys n p at is =
-    let e : at + (at + n - at) ≡ p * n + n = omega arith in
-    ap (λ (rest : List ℕ). take at buf ++ (ys ++ rest)) (drop-drop (at + n - at) at buf ∙ ap (λ k. drop k buf) e)
-    ∙ ap (λ k. take k buf ++ (ys ++ drop (p * n + n) buf)) is
+-- bytes that are written where a part lies
+pub put_part : (buf ys : List ℕ) (n p : ℕ) → p * n + n ≤ length buf → length ys ≡ n → put buf (p * n) ys ≡ with_part n buf p ys
+put_part buf ys n p room whole = same_lists _ _ (search (rules, places)) (λ k d h. grind (arith, places, room, whole))
+
+-- the first z bytes of a longer cell
+pub take_padded : (z n : ℕ) (bytes : List ℕ) → length bytes ≤ z → z ≤ n → take z (padded n bytes) ≡ padded z bytes
+take_padded z n bytes short long = same_lists _ _ (search (rules, places)) (λ k d h. grind (arith, places, short, long))
 
 -- part p of a buffer that has it becomes ys
 module _ (buf ys : List ℕ) (n p : ℕ) (room : p * n + n ≤ length buf) (whole : length ys ≡ n) where
@@ -32,13 +34,8 @@ module _ (buf ys : List ℕ) (n p : ℕ) (room : p * n + n ≤ length buf) (whol
       let w = apart n p q ne in
       same_lists _ _ (search (rules, places)) (λ k d h. grind (arith, places, w))
 
--- the first k bytes of part p, as a slice of the buffer
-pub front_of_part : (buf : List ℕ) (n p k at : ℕ) → at ≡ p * n → k ≤ n → take (at + k - at) (drop at buf) ≡ take k (part_at n buf p)
-front_of_part buf n p k at is short =
-    let e : at + k - at ≡ k = omega arith in
-    ap (λ j. take j (drop at buf)) e ∙ ap (λ a. take k (drop a buf)) is ∙ sym (take-take k n (drop (p * n) buf) short)
-
-pub whole_part : (buf : List ℕ) (n p at : ℕ) → at ≡ p * n → take (at + n - at) (drop at buf) ≡ part_at n buf p
-whole_part buf n p at is =
-    let e : at + n - at ≡ n = omega arith in
-    ap (λ j. take j (drop at buf)) e ∙ ap (λ a. take n (drop a buf)) is
+-- a page among those of a buffer
+pub chunk_at : (n k : ℕ) (buf : List ℕ) (p : ℕ) (d : List ℕ) → p < k → get_or (first_chunks n k buf) p d ≡ part_at n buf p
+chunk_at n zero buf p d h = absurd (omega arith)
+chunk_at n (suc k) buf zero d h = ap (λ i. take n (drop i buf)) (sym (zero-mul n))
+chunk_at n (suc k) buf (suc p) d h = chunk_at n k (drop n buf) p d (omega arith) ∙ ap (take n) (drop-drop (p * n) n buf ∙ ap (λ i. drop i buf) (omega (arith, suc-mul p n)))

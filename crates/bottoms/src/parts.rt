@@ -1,5 +1,5 @@
 // Parts of one length that lie one after another in a buffer.
-ghost use Rattle.std.specs.Prelude.{◌≡◌, ◌+◌, ◌*◌, ◌<◌, ◌≤◌, length, take};
+ghost use Rattle.std.specs.Prelude.{◌≡◌, ◌<◌, ◌≤◌, length};
 ghost use Rattle.cells.specs.Calls.{padded};
 ghost use Rattle.bottoms.specs.Parts.{part_at, whole_parts};
 
@@ -13,33 +13,22 @@ pub(crate) fn whole_parts(len: usize, n: usize) -> usize
     (len / n).min(MOST_CELLS)
 }
 
-/// Where the part `p` begins.
-pub(crate) fn start_of(len: usize, n: usize, p: usize) -> usize
-    requires some { 1 ≤ n }
-    requires there { p < whole_parts len n }
-    ensures start { result ≡ p * n }
-    ensures room { result + n ≤ len }
-{
-    p * n
-}
-
-/// Fills the list with the first bytes of the part `p`.
-pub(crate) fn copy_part(buf: &[u8], n: usize, p: usize, out: &mut [u8])
+/// The part `p`.
+pub(crate) fn part(buf: &[u8], n: usize, p: usize) -> &[u8]
     requires some { 1 ≤ n }
     requires there { p < whole_parts (length buf.now) n }
-    requires short { length out.old ≤ n }
-    ensures { out.new ≡ take (length out.old) (part_at n buf.now p) }
+    ensures bytes { result.now ≡ part_at n buf.now p }
+    ensures whole { length result.now ≡ n }
 {
-    let at = start_of(buf.len(), n, p);
-    out.copy_from_slice(&buf[at..at + out.len()]);
+    &buf[p * n..][..n]
 }
 
-/// Makes a cell the bytes, and then zeros.
-pub(crate) fn fill_cell(cell: &mut [u8], bytes: &[u8])
-    requires short { length bytes.now ≤ length cell.old }
-    ensures { cell.new ≡ padded (length cell.old) bytes.now }
+/// The bytes, and then zeros.
+pub(crate) fn padded<const N: usize>(bytes: &[u8]) -> [u8; N]
+    requires short { length bytes.now ≤ N }
+    ensures { result ≡ padded N bytes.now }
 {
-    let n = bytes.len();
-    cell[0..n].copy_from_slice(bytes);
-    cell[n..].fill(0);
+    let mut all = [0; N];
+    all[..bytes.len()].copy_from_slice(bytes);
+    all
 }
