@@ -3,5 +3,4 @@ pub mod Moves
 pub mod PlaceLaws
 pub mod Told
 pub mod Tries
-pub mod Windowed
 pub mod Writes

@@ -1,6 +1,8 @@
 -- The lowest number that passes a test: the steps of a loop that looks for it, and what is known of it. Assumes nothing.
-use Rattle.std.proofs.Common.{◌≡◌, ℕ, zero, suc, ◌+◌, ◌-◌, ◌<◌, ◌≤◌, Bool, true, false, cond, sym, refl, ap, ◌∙◌, ⊎_elim, arith}
+use Rattle.std.proofs.Common.{◌≡◌, ℕ, zero, suc, ◌+◌, ◌-◌, ◌<◌, ◌≤◌, Bool, true, false, cond, List, length, get_or, sym, refl, ap, ◌∙◌, ⊎_elim, arith}
 use Rattle.std.proofs.lemmas.Bool.{cases_Bool, cases_lt, cond-true, cond-false, both_ways}
+use Rattle.std.specs.List.{position_or_len}
+use Rattle.std.proofs.lemmas.List.Sums.{position_or_len_is}
 use Rattle.layers.specs.Lowest.{lowest, lowest_from}
 
 opened : (t : ℕ → Bool) (j k : ℕ) → j < k → lowest_from t j (k - j) ≡ cond (t j) j (lowest_from t (j + 1) (k - (j + 1)))
@@ -39,6 +41,14 @@ from_same t u j (suc n) all =
     ap (λ b. cond b j (lowest_from t (j + 1) n)) (all j (omega arith) (omega arith))
     ∙ ap (λ x. cond (u j) j x) (from_same t u (j + 1) n (λ i lo hi. all i (omega arith) (omega arith)))
 
+from_bound : (t : ℕ → Bool) (j n : ℕ) → lowest_from t j n ≤ j + n
+from_bound t j zero = omega arith
+from_bound t j (suc n) =
+    ⊎_elim
+    (λ e. omega (arith, cond-true (t j) j (lowest_from t (j + 1) n) e))
+    (λ e. omega (arith, cond-false (t j) j (lowest_from t (j + 1) n) e, from_bound t (j + 1) n))
+    (cases_Bool (t j))
+
 -- what is found passes
 pub low_passes : (t : ℕ → Bool) (k : ℕ) → lowest t k < k → t (lowest t k) ≡ true
 low_passes t k h = from_passes t 0 k (omega arith)
@@ -63,3 +73,12 @@ pub low_only : (t : ℕ → Bool) (k i : ℕ) → i < k → t i ≡ true → ((h
 low_only t k i h e only =
     let le = low_first t k i h e in
     only (lowest t k) (omega arith) (low_passes t k (omega arith))
+
+-- it is where a search through a list finds it
+pub low_position : {X : Type 0} (p : X → Bool) (xs : List X) (d : X) → position_or_len p xs ≡ lowest (λ j. p (get_or xs j d)) (length xs)
+low_position p xs d =
+    let t : ℕ → Bool = λ j. p (get_or xs j d) in
+    let bound = from_bound t 0 (length xs) in
+    position_or_len_is p xs (lowest t (length xs)) d (omega (arith, bound))
+    (λ k h. ⊎_elim (λ e. absurd (omega (arith, bound, low_first t (length xs) k (omega (arith, bound)) e))) (λ e. e) (cases_Bool (t k)))
+    (λ h. low_passes t (length xs) h)

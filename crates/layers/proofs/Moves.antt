@@ -1,10 +1,12 @@
 -- Where the cells lie, before and after a write to one of them. Assumes nothing.
-use Rattle.std.proofs.Common.{◌≡◌, ℕ, ◌+◌, ◌<◌, ◌≤◌, Bool, true, false, cond, ◌&&◌, ◌||◌, eqb, ltb, List, map, length, get_or, sym, refl, ap, ◌∙◌, ⊎_elim, arith}
-use Rattle.std.proofs.lemmas.List.{get_or-set_same, get_or-set_other, get_or-map, length-map}
+use Rattle.std.proofs.Common.{◌≡◌, ℕ, ◌+◌, ◌<◌, ◌≤◌, Bool, true, false, cond, ◌&&◌, ◌||◌, eqb, ltb, List, map, length, get_or, take, Some, None, sym, refl, ap, ◌∙◌, ⊎_elim, arith}
+use Rattle.std.proofs.lemmas.List.{get_or-set_same, get_or-set_other, get_or-map, get_or-take, length-map, length-take-le}
+use Rattle.std.proofs.lemmas.Bool.Decides.{nat_tests}
 use Rattle.std.proofs.lemmas.Bool.{cases_Bool, cases_lt, cases_eq, cond-true, cond-false, both_ways, lt-ltb, le-ltb, ltb-true, eqb-true, eq-eqb, ne_eqb, and_parts, or_cases}
 use Rattle.layers.specs.declared.spare.Spare.{Spare}
 use Rattle.layers.specs.declared.spare.Spare.TheVariants.{Free, Spent, Of}
 use Rattle.layers.specs.Spared.{is_of, is_free, retired, own_spare, place_of, usable, next_spare, takes_by, target, moved_to, table_after, place_below}
+use Rattle.layers.specs.Lowest.{found}
 use Rattle.layers.specs.Places.{After}
 use Rattle.layers.proofs.Lows.{low_passes, low_same, low_only}
 
@@ -47,6 +49,29 @@ place_self k b table p h = cond-false (ltb (own_spare k table p) k) _ _ (le-ltb 
 place_same : (k b : ℕ) (table other : List Spare) (p : ℕ) → own_spare k other p ≡ own_spare k table p → place_of k b other p ≡ place_of k b table p
 unfolding place_of
 place_same k b table other p e = ap (λ o. cond (ltb o k) (b + o) p) e
+
+-- what a search finds
+pub found_some : (k n j : ℕ) → Some j ≡ found k n → (n < k) × (n ≡ j)
+found_some k n j e = grind (arith, nat_tests)
+
+pub found_none : (k n : ℕ) → None ≡ found k n → k ≤ n
+found_none k n e = grind (arith, nat_tests)
+
+-- the front of the table has the same spares
+module _ (k b : ℕ) (table : List Spare) (long : k ≤ length table) where
+  pub own_front : (p : ℕ) → own_spare (length (take k table)) (take k table) p ≡ own_spare k table p
+  own_front p = ap (λ n. own_spare n (take k table) p) (length-take-le k table long) ∙ low_same _ _ k (λ i h. ap (is_of p) (get_or-take k table i Free h))
+
+  pub next_front : (t : ℕ → Bool) → next_spare (length (take k table)) b (take k table) t ≡ next_spare k b table t
+  next_front t = ap (λ n. next_spare n b (take k table) t) (length-take-le k table long) ∙ low_same _ _ k (λ i h. ap (λ s. is_free s && t (b + i)) (get_or-take k table i Free h))
+
+  pub place_some : (p own : ℕ) → Some own ≡ found (length (take k table)) (own_spare (length (take k table)) (take k table) p) → b + own ≡ place_of k b table p
+  place_some p own e =
+      let h = found_some _ _ _ e in
+      omega (arith, own_front p, length-take-le k table long, h.0, h.1, place_own k b table p (omega (arith, own_front p, length-take-le k table long, h.0)))
+
+  pub place_none : (p : ℕ) → None ≡ found (length (take k table)) (own_spare (length (take k table)) (take k table) p) → p ≡ place_of k b table p
+  place_none p e = sym (place_self k b table p (omega (arith, own_front p, length-take-le k table long, found_none _ _ e)))
 
 -- with k spares from b on
 module _ (k b : ℕ) (table : List Spare) where

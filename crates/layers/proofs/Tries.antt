@@ -1,16 +1,37 @@
--- A loop that tries the spares in turn. Assumes nothing.
-use Rattle.std.proofs.Common.{◌≡◌, ℕ, ◌+◌, ◌-◌, ◌<◌, true, false, List, sym, ap, ◌∙◌}
+-- What a search among the spares answers. Assumes nothing.
+use Rattle.std.proofs.Common.{◌≡◌, ℕ, ◌+◌, ◌<◌, ◌≤◌, Bool, true, false, ◌&&◌, List, length, get_or, Some, None, sym, ap, ◌∙◌, ⊎_elim, arith}
+use Rattle.std.proofs.lemmas.Bool.{cases_lt, both_ways}
+use Rattle.std.proofs.lemmas.Bool.Decides.{nat_tests}
 use Rattle.cells.specs.Meaning.{Meaning}
+use Rattle.cells.specs.Calls.{accepts}
 use Rattle.layers.specs.declared.spare.Spare.{Spare}
-use Rattle.layers.specs.Lowest.{lowest_from}
-use Rattle.layers.specs.Spared.{usable, next_spare, accepting}
-use Rattle.layers.proofs.Lows.{low_hit, low_more}
+use Rattle.layers.specs.declared.spare.Spare.TheVariants.{Free}
+use Rattle.layers.specs.Lowest.{lowest, found}
+use Rattle.layers.specs.Spared.{is_free, usable, accepting, next_spare}
+use Rattle.layers.proofs.Lows.{low_first, low_passes}
 
--- the spares below j took nothing, so that the store below means what it did, and the next spare is among the others
-module _ (k b j : ℕ) (table : List Spare) (bytes : List ℕ) (m first : Meaning) (same : first ≡ m)
-    (left : lowest_from (usable b table (accepting m bytes)) j (k - j) ≡ next_spare k b table (accepting m bytes)) (under : j < k) where
-  pub found : usable b table (accepting first bytes) j ≡ true → j ≡ next_spare k b table (accepting m bytes)
-  found e = sym (low_hit (usable b table (accepting m bytes)) j k under (ap (λ f. usable b table (accepting f bytes) j) (sym same) ∙ e)) ∙ left
+-- the first that passes
+found_first : (t : ℕ → Bool) (k j : ℕ) → j < k → t j ≡ true → ((i : ℕ) → i < j → t i ≡ false) → found k (lowest t k) ≡ Some j
+found_first t k j under here before =
+    let le = low_first t k j under here in
+    let is : lowest t k ≡ j = ⊎_elim
+    (λ (h : lowest t k < j). absurd (both_ways (t (lowest t k)) (before (lowest t k) h) (low_passes t k (omega arith))))
+    (λ (h : j ≤ lowest t k). omega arith)
+    (cases_lt (lowest t k) j) in
+    grind (arith, nat_tests)
 
-  pub passed : usable b table (accepting first bytes) j ≡ false → lowest_from (usable b table (accepting m bytes)) (j + 1) (k - (j + 1)) ≡ next_spare k b table (accepting m bytes)
-  passed e = sym (low_more (usable b table (accepting m bytes)) j k under (ap (λ f. usable b table (accepting f bytes) j) (sym same) ∙ e)) ∙ left
+-- the spares of a table, where the store below means m
+module _ (b : ℕ) (table : List Spare) (m : Meaning) (bytes : List ℕ) where
+  pub next_first : (first : Meaning) (j : ℕ) → first ≡ m → j < length table → (is_free (get_or table j Free) && accepts first (b + j) bytes) ≡ true → ((i : ℕ) → i < j → usable b table (accepting m bytes) i ≡ false) → Some j ≡ found (length table) (next_spare (length table) b table (accepting m bytes))
+  next_first first j same under here before =
+      sym (found_first (usable b table (accepting m bytes)) (length table) j under (ap (λ (f : Meaning). usable b table (accepting f bytes) j) (sym same) ∙ here) before)
+
+  pub next_none : ((i : ℕ) → i < length table → usable b table (accepting m bytes) i ≡ false) → None ≡ found (length table) (next_spare (length table) b table (accepting m bytes))
+  next_none none =
+      let t = usable b table (accepting m bytes) in
+      let k = length table in
+      let over : k ≤ lowest t k = ⊎_elim
+      (λ (h : lowest t k < k). absurd (both_ways (t (lowest t k)) (none (lowest t k) h) (low_passes t k h)))
+      (λ h. h)
+      (cases_lt (lowest t k) k) in
+      grind (arith, nat_tests)

@@ -1,13 +1,16 @@
 -- What a write makes of a store with spares. Assumes nothing.
-use Rattle.std.proofs.Common.{◌≡◌, ℕ, ◌+◌, ◌-◌, ◌<◌, ◌≤◌, Bool, true, false, cond, List, length, is_ok, Ok, Err, sym, refl, ap, ◌∙◌, subst, arith}
+use Rattle.std.proofs.Common.{◌≡◌, ℕ, ◌+◌, ◌-◌, ◌<◌, ◌≤◌, Bool, true, false, cond, List, length, take, is_ok, Some, None, Ok, Err, Option, sym, refl, ap, ◌∙◌, subst, arith}
+use Rattle.std.specs.Option.{MatchOption}
+use Rattle.std.proofs.lemmas.List.{length-take-le}
 use Rattle.std.proofs.lemmas.Bool.{both_ways, cond-true, cond-false, lt-ltb, le-ltb, or_left, or_right, or_from}
 use Rattle.cells.specs.declared.fault.StoreFault.TheVariants.{Worn}
 use Rattle.cells.specs.Meaning.{Meaning}
 use Rattle.cells.specs.Calls.{Answer, Becomes, Written, WroteBy, accepts}
 use Rattle.cells.proofs.Answered.{answer_at, accepted_by, written_if, same_unless}
 use Rattle.layers.specs.declared.spare.Spare.{Spare}
+use Rattle.layers.specs.Lowest.{found}
 use Rattle.layers.specs.Spared.{kept, place_of, next_spare, takes_by, target, moved_to, table_after, accepting, spared, held_by, left_by, spares, place_below}
-use Rattle.layers.proofs.Moves.{takes_same, after_write}
+use Rattle.layers.proofs.Moves.{found_some, found_none, next_front, takes_same, after_write}
 use Rattle.layers.proofs.Told.{told_below}
 
 -- whether the layer accepts a write hangs on which cells below accept it
@@ -78,28 +81,46 @@ module _ (held : ℕ) (table : List Spare) (m : Meaning) (p : ℕ) (bytes : List
         wrote_ok at table first (λ no. absurd (both_ways (accepted (place_of k b table p)) no yes)) (or_left _ _ yes) (is_at ∙ sym (cond-true _ _ _ yes)) (sym (cond-true _ _ _ yes)) (written_if m first at bytes r w ok)
 
     -- where it is not, and the spares were tried, with the numbers that were worked out for k and b
-    module _ (refused : is_ok r ≡ false) (spare_count base j : ℕ) (is_k : spare_count ≡ k) (is_b : base ≡ b) (which : j ≡ next_spare spare_count base table (accepting first bytes)) (n : Meaning) where
+    module _ (refused : is_ok r ≡ false) (spare_count base : ℕ) (is_k : spare_count ≡ held_by held first) (is_b : base ≡ left_by held first) (long : spare_count ≤ length table) (n : Meaning)
+        (tried : Option ℕ) (which : tried ≡ found (length (take spare_count table)) (next_spare (length (take spare_count table)) base (take spare_count table) (accepting first bytes)))
+        (became : MatchOption tried (n ≡ first) (λ j. Written first (base + j) bytes n)) where
       same : first ≡ m
       same = same_unless m first at bytes r w refused
 
       no : accepted (place_of k b table p) ≡ false
       no = sym by_place ∙ refused
 
-      is_j : j ≡ next_spare k b table accepted
-      is_j = which ∙ ap (λ x. next_spare x base table (accepting first bytes)) is_k ∙ ap (λ x. next_spare k x table (accepting first bytes)) is_b ∙ ap (λ (f : Meaning). next_spare k b table (accepting f bytes)) same
+      k_is : spare_count ≡ k
+      k_is = is_k ∙ ap (held_by held) same
 
-      pub wrote_spare : spare_count ≤ length table → (then : List Spare) → then ≡ moved_to table j p → j < spare_count → Written first (base + j) bytes n → Wrote held table m p bytes (Ok tt) then n
-      wrote_spare long then is_then within took =
-          wrote_ok (base + j) then n (λ _. omega arith) (or_right _ _ (lt-ltb (next_spare k b table accepted) k (omega (arith, is_j))))
-          (ap (λ x. x + j) is_b ∙ ap (λ i. b + i) is_j ∙ sym (cond-false _ _ _ no)) (is_then ∙ ap (λ i. moved_to table i p) is_j ∙ sym (cond-false _ _ _ no)) (subst (λ f. Written f (base + j) bytes n) same took)
+      b_is : base ≡ b
+      b_is = is_b ∙ ap (left_by held) same
 
-      pub wrote_nowhere : spare_count ≤ j → n ≡ first → Wrote held table m p bytes (Err (Worn p)) table n
-      wrote_nowhere none back = record {
-        store = record {
-          answer = sym (answer_at (spares held table m) p bytes low short ∙ cond-false (accepts (spares held table m) p bytes) _ _
-              (accepts-spared k b table m p bytes ∙ or_from _ _ no (le-ltb (next_spare k b table accepted) k (omega (arith, is_j)))));
-          becomes = ap (spares held table) (back ∙ same);
-        };
-        below = back ∙ same;
-        changed = refl;
-      }
+      next_is : next_spare (length (take spare_count table)) base (take spare_count table) (accepting first bytes) ≡ next_spare k b table accepted
+      next_is =
+          next_front spare_count base table long (accepting first bytes)
+          ∙ ap (λ x. next_spare x base table (accepting first bytes)) k_is
+          ∙ ap (λ x. next_spare k x table (accepting first bytes)) b_is
+          ∙ ap (λ (f : Meaning). next_spare k b table (accepting f bytes)) same
+
+      pub wrote_spare : (j : ℕ) → tried ≡ Some j → (then : List Spare) → then ≡ moved_to table j p → Wrote held table m p bytes (Ok tt) then n
+      wrote_spare j is then is_then =
+          let h = found_some _ _ j (sym is ∙ which) in
+          let is_j : j ≡ next_spare k b table accepted = sym h.1 ∙ next_is in
+          let took : Written first (base + j) bytes n = subst (λ o. MatchOption o (n ≡ first) (λ j. Written first (base + j) bytes n)) is became in
+          wrote_ok (base + j) then n (λ _. omega (arith, k_is)) (or_right _ _ (lt-ltb (next_spare k b table accepted) k (omega (arith, next_is, h.0, k_is, length-take-le spare_count table long))))
+          (ap (λ x. x + j) b_is ∙ ap (λ i. b + i) is_j ∙ sym (cond-false _ _ _ no)) (is_then ∙ ap (λ i. moved_to table i p) is_j ∙ sym (cond-false _ _ _ no)) (subst (λ f. Written f (base + j) bytes n) same took)
+
+      pub wrote_nowhere : tried ≡ None → (x : Answer) → x ≡ Err (Worn p) → Wrote held table m p bytes x table n
+      wrote_nowhere is x is_x =
+          let back : n ≡ first = subst (λ o. MatchOption o (n ≡ first) (λ j. Written first (base + j) bytes n)) is became in
+          let over = found_none _ _ (sym is ∙ which) in
+          subst (λ x. Wrote held table m p bytes x table n) (sym is_x) (record {
+            store = record {
+              answer = sym (answer_at (spares held table m) p bytes low short ∙ cond-false (accepts (spares held table m) p bytes) _ _
+                  (accepts-spared k b table m p bytes ∙ or_from _ _ no (le-ltb (next_spare k b table accepted) k (omega (arith, next_is, k_is, length-take-le spare_count table long, over)))));
+              becomes = ap (spares held table) (back ∙ same);
+            };
+            below = back ∙ same;
+            changed = refl;
+          })

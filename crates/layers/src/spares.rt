@@ -19,6 +19,7 @@ pub const MOST_SPARES: usize = 16;
 pub struct Spares<S> {
     below: S,
     held: usize,
+    // Kept: an array, since no heap is used here.
     table: [Spare; MOST_SPARES],
 }
 
@@ -56,29 +57,18 @@ impl<S: Store> Spares<S> {
     }
 
     // Where the cell `p` lies below.
-    fn place_of(&self, k: usize, base: usize, p: usize) -> usize
-        requires few { k ≤ most_spares }
-        requires small { base ≤ most_cells }
-        requires here { p < base }
-        ensures place { result ≡ place_of k base self.now.table p }
-        ensures below { result < base + k }
+    fn place_of(&self, p: usize) -> usize
+        requires { p < left_in S.Store.meaning self.now }
+        ensures { result ≡ place_in S.Store.meaning self.now p }
     {
-        let own = find_own(&self.table, k, p);
-        if own < k { base + own } else { p }
+        match find_own(&self.table[..self.spare_cells()], p) {
+            Some(own) => self.count() + own,
+            None => p,
+        }
     }
 
-    // Writes the bytes to the cell `p`, which lies at `at`, or else to a spare that becomes its place. There are `k` spares from `base` on.
-    fn write_at(
-        &mut self,
-        at: usize,
-        k: usize,
-        base: usize,
-        p: usize,
-        bytes: &[u8],
-    ) -> Result<(), StoreFault>
-        requires held { k ≡ held_in S.Store.meaning self.old }
-        requires left { base ≡ left_in S.Store.meaning self.old }
-        requires place { at ≡ place_in S.Store.meaning self.old p }
+    // Writes the bytes to the cell `p` at its place, or else to a spare that becomes its place.
+    fn write_cell(&mut self, p: usize, bytes: &[u8]) -> Result<(), StoreFault>
         requires here { p < left_in S.Store.meaning self.old }
         requires short { length bytes.now ≤ (S.Store.meaning self.old.below).size }
         ensures store { WroteBy (spares_of S.Store.meaning self.old) p bytes.now result (spares_of S.Store.meaning self.new) }
@@ -86,13 +76,13 @@ impl<S: Store> Spares<S> {
         ensures table { self.new.table ≡ (if is_ok result then table_then S.Store.meaning self.old p bytes.now else self.old.table) }
         ensures kept { self.new.held ≡ self.old.held }
     {
+        let at = self.place_of(p);
         if self.below.write(at, bytes).is_ok() {
             return Ok(());
         }
-        let j = try_spares(&mut self.below, &self.table, k, base, bytes);
-        if j >= k {
-            return Err(StoreFault::Worn(p));
-        }
+        let base = self.count();
+        let spares = &self.table[..self.spare_cells()];
+        let j = try_spares(&mut self.below, spares, base, bytes).ok_or(StoreFault::Worn(p))?;
         move_to(&mut self.table, j, p);
         Ok(())
     }
@@ -131,16 +121,13 @@ impl<S: Store> Store for Spares<S> {
         self.below.size()
     }
 
+    #[tactic(auto, using(crate::specs::Spared::place_below))]
     fn read(&self, p: usize, out: &mut [u8]) -> Result<(), StoreFault> {
-        let base = self.count();
-        if p >= base {
+        if p >= self.count() {
             return Err(StoreFault::Place(p));
         }
-        let at = self.place_of(self.spare_cells(), base, p);
-        match self.below.read(at, out) {
-            Ok(()) => Ok(()),
-            Err(fault) => Err(fault.at(p)),
-        }
+        let at = self.place_of(p);
+        self.below.read(at, out).map_err(|fault| fault.at(p))
     }
 
     // Beside what any store says of a write: where it goes below and what it makes of the store there, and what the table is then.
@@ -150,10 +137,7 @@ impl<S: Store> Store for Spares<S> {
         ensures table { self.new.table ≡ (if is_ok result then table_then S.Store.meaning self.old p bytes.now else self.old.table) }
         ensures kept { self.new.held ≡ self.old.held }
     {
-        let k = self.spare_cells();
-        let base = self.count();
-        admit(base, self.below.size(), p, bytes.len())?;
-        let at = self.place_of(k, base, p);
-        self.write_at(at, k, base, p, bytes)
+        admit(self.count(), self.size(), p, bytes.len())?;
+        self.write_cell(p, bytes)
     }
 }

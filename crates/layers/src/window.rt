@@ -35,20 +35,6 @@ impl<S: Store> Window<S> {
         } = self;
         below
     }
-
-    // Writes the bytes to the cell `at` below, which is the cell `p` here.
-    fn write_at(&mut self, at: usize, p: usize, bytes: &[u8]) -> Result<(), StoreFault>
-        requires place { at ≡ self.old.from + p }
-        requires here { p < (window_of S.Store.meaning self.old).count }
-        ensures store { WroteBy (window_of S.Store.meaning self.old) p bytes.now result (window_of S.Store.meaning self.new) }
-        ensures below { Becomes (S.Store.meaning self.old.below) (self.old.from + p) bytes.now result (S.Store.meaning self.new.below) }
-        ensures kept { (self.new.from ≡ self.old.from) × (self.new.cells ≡ self.old.cells) }
-    {
-        match self.below.write(at, bytes) {
-            Ok(()) => Ok(()),
-            Err(fault) => Err(fault.at(p)),
-        }
-    }
 }
 
 /// Cell `p` of the window is cell `from + p` below. A refusal names the cell that the window was asked for.
@@ -69,10 +55,8 @@ impl<S: Store> Store for Window<S> {
         if p >= self.count() {
             return Err(StoreFault::Place(p));
         }
-        match self.below.read(self.from + p, out) {
-            Ok(()) => Ok(()),
-            Err(fault) => Err(fault.at(p)),
-        }
+        let at = self.from + p;
+        self.below.read(at, out).map_err(|fault| fault.at(p))
     }
 
     // Beside what any store says of a write: what it makes of the store below, and that the window stays where it is.
@@ -84,6 +68,7 @@ impl<S: Store> Store for Window<S> {
         if p >= self.count() {
             return Err(StoreFault::Place(p));
         }
-        self.write_at(self.from + p, p, bytes)
+        let at = self.from + p;
+        self.below.write(at, bytes).map_err(|fault| fault.at(p))
     }
 }

@@ -1,11 +1,7 @@
 use Rattle.std.proofs.Common.{rules}
-use Rattle.std.proofs.lemmas.List.{take_all, drop_all, append-nil}
 use Rattle.std.proofs.lemmas.List.Edits.{map_over_more}
 use Rattle.layers.specs.Spared.{retired}
 use Rattle.layers.proofs.scan.retire.Goals as goal
 
-pub loop-i-preserved : goal.loop-i-preserved
-loop-i-preserved c = search (rules, map_over_more (retired c.args.p))
-
-pub returns : goal.returns
-returns c = search (rules, take_all, drop_all, append-nil)
+pub loop-spare-preserved : goal.loop-spare-preserved
+loop-spare-preserved c = search (rules, map_over_more (retired c.args.p))
