@@ -3,22 +3,25 @@ use bottoms::flash::{ERASES_LEFT, FLASH_PAGE, Flash};
 use bottoms::memory::Memory;
 use cells::fault::StoreFault;
 use cells::store::Store;
+use either::Either;
 use layers::spares::Spares;
 use layers::window::Window;
+use std::alloc::AllocError;
 use std::process::Abort;
 
 // A write of two bytes to a cell, and what it is answered.
 type Step = (usize, [u8; 2], Result<(), StoreFault>);
+
+// Either bottom, over an array.
+type Bottom = Either<Memory<[u8; 12]>, Flash<[u8; 256]>>;
 
 // Bytes of a buffer from a place on.
 type Part<'a> = (usize, &'a [u8]);
 
 // Leaves one erase to each page of a buffer of zeros.
 fn one_erase_each(buf: &mut [u8]) {
-    for page in buf.chunks_exact_mut(FLASH_PAGE) {
-        if let Some(left) = page.get_mut(ERASES_LEFT) {
-            *left = 1;
-        }
+    for page in buf.as_chunks_mut::<FLASH_PAGE>().0 {
+        page[ERASES_LEFT] = 1;
     }
 }
 
@@ -40,15 +43,7 @@ fn reads<S: Store>(rt: &impl Abort, store: &S, cells: &[[u8; 2]]) {
 }
 
 fn has(buf: &[u8], from: usize, want: &[u8]) -> bool {
-    for (i, byte) in want.iter().enumerate() {
-        let Some(found) = buf.get(from.wrapping_add(i)) else {
-            return false;
-        };
-        if *found != *byte {
-            return false;
-        }
-    }
-    true
+    buf.get(from..).is_some_and(|rest| rest.starts_with(want))
 }
 
 // The buffer has these parts.
@@ -223,4 +218,87 @@ fn window_past_the_end(rt: HostRuntime) {
     // Sixteen spares at most: of twenty cells four are left.
     let mut small = [0; 20];
     assert_eq!(rt; Spares::new(Memory::new(&mut small, 1), 17).count(), 4);
+}
+
+#[test]
+fn memory_of_its_own(rt: HostRuntime) -> Result<(), AllocError> {
+    let mut memory = Memory::new(vec![in rt.alloc(); 7; 20]?, 6);
+    assert_eq!(rt; (memory.count(), memory.size()), (3, 6));
+    writes(
+        &rt,
+        &mut memory,
+        &[(2, [1, 2], Ok(())), (3, [3, 3], Err(StoreFault::Place(3)))],
+    );
+    reads(&rt, &memory, &[[7, 7], [7, 7], [1, 2]]);
+    parts(
+        &rt,
+        memory.end().as_slice(),
+        &[(0, &[7]), (11, &[7, 1, 2, 0, 0, 0, 0, 7, 7])],
+    );
+    Ok(())
+}
+
+#[test]
+fn flash_of_its_own(rt: HostRuntime) -> Result<(), AllocError> {
+    let mut buf = vec![in rt.alloc(); 0; 600]?;
+    one_erase_each(buf.as_mut_slice());
+    let mut flash = Flash::new(buf);
+    writes(
+        &rt,
+        &mut flash,
+        &[
+            (1, [8, 9], Ok(())),
+            (1, [1, 1], Err(StoreFault::Worn(1))),
+            (2, [1, 1], Err(StoreFault::Place(2))),
+        ],
+    );
+    reads(&rt, &flash, &[[0, 0], [8, 9]]);
+    parts(
+        &rt,
+        flash.end().as_slice(),
+        &[
+            (252, &[1, 0, 0, 0, 8, 9, 0]),
+            (494, &[0, 0xff]),
+            (507, &[0xff, 0, 0, 0, 0, 0]),
+        ],
+    );
+    Ok(())
+}
+
+#[test]
+fn either_bottom(rt: HostRuntime) {
+    let mut memory: Bottom = Either::Left(Memory::new([7; 12], 6));
+    assert_eq!(rt; (memory.count(), memory.size()), (2, 6));
+    writes(
+        &rt,
+        &mut memory,
+        &[
+            (1, [1, 2], Ok(())),
+            (1, [3, 4], Ok(())),
+            (2, [5, 5], Err(StoreFault::Place(2))),
+        ],
+    );
+    reads(&rt, &memory, &[[7, 7], [3, 4]]);
+    let mut page = [0; 256];
+    one_erase_each(&mut page);
+    let mut flash: Bottom = Either::Right(Flash::new(page));
+    assert_eq!(rt; (flash.count(), flash.size()), (1, 239));
+    writes(
+        &rt,
+        &mut flash,
+        &[(0, [1, 2], Ok(())), (0, [3, 4], Err(StoreFault::Worn(0)))],
+    );
+    reads(&rt, &flash, &[[1, 2]]);
+}
+
+#[test]
+fn refusals_as_text(rt: HostRuntime) -> Result<(), AllocError> {
+    let heap = rt.alloc();
+    let place = format!(in heap; "{}", StoreFault::Place(7))?;
+    let length = format!(in heap; "{}", StoreFault::Length(0))?;
+    let worn = format!(in heap; "{}", StoreFault::Worn(511))?;
+    assert_eq!(rt; place.as_str(), "place cell=7");
+    assert_eq!(rt; length.as_str(), "length cell=0");
+    assert_eq!(rt; worn.as_str(), "worn cell=511");
+    Ok(())
 }
