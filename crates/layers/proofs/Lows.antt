@@ -1,39 +1,17 @@
--- The lowest number that passes a test: the steps of a loop that looks for it, and what is known of it. Assumes nothing.
-use Rattle.std.proofs.Common.{◌≡◌, ℕ, zero, suc, ◌+◌, ◌-◌, ◌<◌, ◌≤◌, Bool, true, false, cond, List, length, get_or, sym, refl, ap, ◌∙◌, ⊎_elim, arith}
-use Rattle.std.proofs.lemmas.Bool.{cases_Bool, cases_lt, cond-true, cond-false, both_ways}
+-- The lowest number that passes a test: what is known of it. Assumes nothing.
+use Rattle.std.proofs.Common.{◌≡◌, ℕ, zero, suc, ◌+◌, ◌<◌, ◌≤◌, Bool, true, false, cond, List, length, get_or, refl, ap, ◌∙◌, ⊎_elim, arith}
+use Rattle.std.proofs.lemmas.Bool.{cases_Bool, cases_lt, both_ways}
 use Rattle.std.specs.List.{position_or_len}
 use Rattle.std.proofs.lemmas.List.Sums.{position_or_len_is}
 use Rattle.layers.specs.Lowest.{lowest, lowest_from}
 
-opened : (t : ℕ → Bool) (j k : ℕ) → j < k → lowest_from t j (k - j) ≡ cond (t j) j (lowest_from t (j + 1) (k - (j + 1)))
-opened t j k h =
-    let e : k - j ≡ suc (k - (j + 1)) = omega arith in
-    ap (lowest_from t j) e
-
-pub low_more : (t : ℕ → Bool) (j k : ℕ) → j < k → t j ≡ false → lowest_from t j (k - j) ≡ lowest_from t (j + 1) (k - (j + 1))
-low_more t j k h e = opened t j k h ∙ cond-false (t j) _ _ e
-
-pub low_hit : (t : ℕ → Bool) (j k : ℕ) → j < k → t j ≡ true → lowest_from t j (k - j) ≡ j
-low_hit t j k h e = opened t j k h ∙ cond-true (t j) _ _ e
-
 from_passes : (t : ℕ → Bool) (j n : ℕ) → lowest_from t j n < j + n → t (lowest_from t j n) ≡ true
 from_passes t j zero h = absurd (omega arith)
-from_passes t j (suc n) h =
-    ⊎_elim
-    (λ e. ap t (cond-true (t j) j (lowest_from t (j + 1) n) e) ∙ e)
-    (λ e. let same = cond-false (t j) j (lowest_from t (j + 1) n) e in ap t same ∙ from_passes t (j + 1) n (omega (arith, same)))
-    (cases_Bool (t j))
+from_passes t j (suc n) h = grind (arith, from_passes t (j + 1) n)
 
 from_first : (t : ℕ → Bool) (j n i : ℕ) → j ≤ i → i < j + n → t i ≡ true → lowest_from t j n ≤ i
 from_first t j zero i lo hi e = absurd (omega arith)
-from_first t j (suc n) i lo hi e =
-    ⊎_elim
-    (λ y. omega (arith, cond-true (t j) j (lowest_from t (j + 1) n) y))
-    (λ y.
-    let ne : i ≡ j → ⊥ = λ same. both_ways (t j) y (ap t (sym same) ∙ e) in
-    let above : j + 1 ≤ i = omega arith in
-    omega (arith, cond-false (t j) j (lowest_from t (j + 1) n) y, from_first t (j + 1) n i above (omega arith) e))
-    (cases_Bool (t j))
+from_first t j (suc n) i lo hi e = grind (arith, from_first t (j + 1) n i)
 
 from_same : (t u : ℕ → Bool) (j n : ℕ) → ((i : ℕ) → j ≤ i → i < j + n → t i ≡ u i) → lowest_from t j n ≡ lowest_from u j n
 from_same t u j zero all = refl
@@ -43,11 +21,7 @@ from_same t u j (suc n) all =
 
 from_bound : (t : ℕ → Bool) (j n : ℕ) → lowest_from t j n ≤ j + n
 from_bound t j zero = omega arith
-from_bound t j (suc n) =
-    ⊎_elim
-    (λ e. omega (arith, cond-true (t j) j (lowest_from t (j + 1) n) e))
-    (λ e. omega (arith, cond-false (t j) j (lowest_from t (j + 1) n) e, from_bound t (j + 1) n))
-    (cases_Bool (t j))
+from_bound t j (suc n) = grind (arith, from_bound t (j + 1) n)
 
 -- what is found passes
 pub low_passes : (t : ℕ → Bool) (k : ℕ) → lowest t k < k → t (lowest t k) ≡ true

@@ -1,8 +1,8 @@
 -- Where the cells lie, before and after a write to one of them. Assumes nothing.
-use Rattle.std.proofs.Common.{◌≡◌, ℕ, ◌+◌, ◌<◌, ◌≤◌, Bool, true, false, cond, ◌&&◌, ◌||◌, eqb, ltb, List, map, length, get_or, take, Some, None, sym, refl, ap, ◌∙◌, ⊎_elim, arith}
+use Rattle.std.proofs.Common.{◌≡◌, ℕ, ◌+◌, ◌<◌, ◌≤◌, Bool, true, false, cond, ◌&&◌, ◌||◌, ltb, List, map, length, get_or, take, Some, None, sym, refl, ap, ◌∙◌, ⊎_elim, arith}
 use Rattle.std.proofs.lemmas.List.{get_or-set_same, get_or-set_other, get_or-map, get_or-take, length-map, length-take-le}
 use Rattle.std.proofs.lemmas.Bool.Decides.{nat_tests}
-use Rattle.std.proofs.lemmas.Bool.{cases_Bool, cases_lt, cases_eq, cond-true, cond-false, both_ways, lt-ltb, le-ltb, ltb-true, eqb-true, eq-eqb, ne_eqb, and_parts, or_cases}
+use Rattle.std.proofs.lemmas.Bool.{cases_lt, cases_eq, cond-true, cond-false, both_ways, lt-ltb, le-ltb, ltb-true, eq-eqb, ne_eqb, and_parts, or_cases}
 use Rattle.layers.specs.declared.spare.Spare.{Spare}
 use Rattle.layers.specs.declared.spare.Spare.TheVariants.{Free, Spent, Of}
 use Rattle.layers.specs.Spared.{is_of, is_free, retired, own_spare, place_of, usable, next_spare, takes_by, target, moved_to, table_after, place_below}
@@ -12,30 +12,24 @@ use Rattle.layers.proofs.Lows.{low_passes, low_same, low_only}
 
 -- one spare
 one_cell : (s : Spare) (p q : ℕ) → is_of p s ≡ true → is_of q s ≡ true → q ≡ p
-one_cell Free p q a b = absurd (both_ways false refl a)
-one_cell Spent p q a b = absurd (both_ways false refl a)
-one_cell (Of x) p q a b = sym (eqb-true x q b) ∙ eqb-true x p a
+one_cell Free p q a b = grind arith
+one_cell Spent p q a b = grind arith
+one_cell (Of x) p q a b = grind (arith, nat_tests)
 
 free_of : (s : Spare) (q : ℕ) → is_free s ≡ true → is_of q s ≡ false
 free_of Free q e = refl
-free_of Spent q e = absurd (both_ways false refl e)
-free_of (Of x) q e = absurd (both_ways false refl e)
+free_of Spent q e = grind arith
+free_of (Of x) q e = grind arith
 
 retired_own : (s : Spare) (p : ℕ) → is_of p (retired p s) ≡ false
 retired_own Free p = refl
 retired_own Spent p = refl
-retired_own (Of x) p = ⊎_elim
-    (λ e. ap (is_of p) (cond-true (eqb x p) Spent (Of x) e))
-    (λ e. ap (is_of p) (cond-false (eqb x p) Spent (Of x) e) ∙ e)
-    (cases_Bool (eqb x p))
+retired_own (Of x) p = grind (arith, nat_tests)
 
 retired_other : (s : Spare) (p q : ℕ) → (q ≡ p → ⊥) → is_of q (retired p s) ≡ is_of q s
 retired_other Free p q ne = refl
 retired_other Spent p q ne = refl
-retired_other (Of x) p q ne = ⊎_elim
-    (λ e. ap (is_of q) (cond-true (eqb x p) Spent (Of x) e) ∙ sym (ne_eqb x q (λ same. ne (sym same ∙ eqb-true x p e))))
-    (λ e. ap (is_of q) (cond-false (eqb x p) Spent (Of x) e))
-    (cases_Bool (eqb x p))
+retired_other (Of x) p q ne = grind (arith, nat_tests)
 
 -- the place of a cell
 pub place_own : (k b : ℕ) (table : List Spare) (p : ℕ) → own_spare k table p < k → place_of k b table p ≡ b + own_spare k table p

@@ -1,8 +1,9 @@
 -- The laws of the spares. Assumes nothing.
-use Rattle.std.proofs.Common.{◌≡◌, ℕ, ◌+◌, ◌<◌, ◌≤◌, Bool, true, false, eqb, ltb, ◌⊎◌, List, map, length, get_or, replicate, ap, ◌∙◌, inl, inr, ⊎_elim, arith}
+use Rattle.std.proofs.Common.{◌≡◌, ℕ, ◌+◌, ◌<◌, ◌≤◌, Bool, true, false, ltb, ◌⊎◌, List, map, length, get_or, replicate, ap, ◌∙◌, inl, inr, ⊎_elim, arith}
 use lib.ListN.{get_or-replicate}
 use Rattle.std.proofs.lemmas.List.{get_or-set_same, get_or-set_other, get_or-map, get_or_past, length-map, length-replicate}
 use Rattle.std.proofs.lemmas.Bool.{cases_Bool, cases_lt, cases_eq, cond-true, cond-false, both_ways, lt-ltb, ltb-true, and_parts, and_from, or_left, or_right, or_cases}
+use Rattle.std.proofs.lemmas.Bool.Decides.{nat_tests}
 use Rattle.layers.specs.declared.spare.Spare.{Spare}
 use Rattle.layers.specs.declared.spare.Spare.TheVariants.{Free, Spent, Of}
 use Rattle.layers.specs.Spared.{most_spares, is_of, is_free, retired, place_of, usable, next_spare, takes_by, moved_to, table_after, place_below}
@@ -49,10 +50,7 @@ module _ (k b : ℕ) (table : List Spare) (t : ℕ → Bool) where
 retired_used : (s : Spare) (p : ℕ) → is_free s ≡ false → is_free (retired p s) ≡ false
 retired_used Free p e = e
 retired_used Spent p e = e
-retired_used (Of x) p e = ⊎_elim
-    (λ y. ap is_free (cond-true (eqb x p) Spent (Of x) y))
-    (λ y. ap is_free (cond-false (eqb x p) Spent (Of x) y))
-    (cases_Bool (eqb x p))
+retired_used (Of x) p e = grind (arith, nat_tests)
 
 used_within : (table : List Spare) (j : ℕ) → is_free (get_or table j Free) ≡ false → j < length table
 used_within table j e = ⊎_elim
