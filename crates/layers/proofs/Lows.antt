@@ -1,6 +1,6 @@
 -- The lowest number that passes a test: what is known of it. Assumes nothing.
 use Rattle.std.proofs.Common.{◌≡◌, ℕ, zero, suc, ◌+◌, ◌<◌, ◌≤◌, Bool, true, false, cond, List, length, get_or, refl, ap, ◌∙◌, ⊎_elim, arith}
-use Rattle.std.proofs.lemmas.Bool.{cases_Bool, cases_lt, both_ways}
+use Rattle.std.proofs.lemmas.Bool.{cases_Bool}
 use Rattle.std.specs.List.{position_or_len}
 use Rattle.std.proofs.lemmas.List.Sums.{position_or_len_is}
 use Rattle.layers.specs.Lowest.{lowest, lowest_from}
@@ -37,16 +37,11 @@ low_first t k i h e = from_first t 0 k i (omega arith) (omega arith) e
 
 -- where none passes, nothing is found
 pub low_none : (t : ℕ → Bool) (k : ℕ) → ((i : ℕ) → t i ≡ false) → k ≤ lowest t k
-low_none t k none = ⊎_elim
-    (λ (h : lowest t k < k). absurd (both_ways (t (lowest t k)) (none (lowest t k)) (low_passes t k h)))
-    (λ h. h)
-    (cases_lt (lowest t k) k)
+low_none t k none = grind (arith, low_passes t k, none (lowest t k))
 
 -- the only one that passes is found
 pub low_only : (t : ℕ → Bool) (k i : ℕ) → i < k → t i ≡ true → ((h : ℕ) → h < k → t h ≡ true → h ≡ i) → lowest t k ≡ i
-low_only t k i h e only =
-    let le = low_first t k i h e in
-    only (lowest t k) (omega arith) (low_passes t k (omega arith))
+low_only t k i h e only = grind (arith, low_first t k i h e, low_passes t k, only (lowest t k))
 
 -- it is where a search through a list finds it
 pub low_position : {X : Type 0} (p : X → Bool) (xs : List X) (d : X) → position_or_len p xs ≡ lowest (λ j. p (get_or xs j d)) (length xs)

@@ -1,8 +1,7 @@
 -- The laws of the spares. Assumes nothing.
-use Rattle.std.proofs.Common.{◌≡◌, ℕ, ◌+◌, ◌<◌, ◌≤◌, Bool, true, false, ltb, ◌⊎◌, List, map, length, get_or, replicate, ap, ◌∙◌, inl, inr, ⊎_elim, arith}
-use lib.ListN.{get_or-replicate}
-use Rattle.std.proofs.lemmas.List.{get_or-set_same, get_or-set_other, get_or-map, get_or_past, length-map, length-replicate}
-use Rattle.std.proofs.lemmas.Bool.{cases_Bool, cases_lt, cases_eq, cond-true, cond-false, both_ways, lt-ltb, ltb-true, and_parts, and_from, or_left, or_right, or_cases}
+use Rattle.std.proofs.lemmas.Grind.{common_steps}
+use Rattle.std.proofs.Common.{◌≡◌, ℕ, ◌+◌, ◌<◌, ◌≤◌, Bool, true, false, ltb, ◌⊎◌, List, length, get_or, replicate, ap, inl, inr, ⊎_elim, arith}
+use Rattle.std.proofs.lemmas.Bool.{cond-true, cond-false, lt-ltb, ltb-true, and_parts, and_from, or_left, or_right, or_cases}
 use Rattle.std.proofs.lemmas.Bool.Decides.{nat_tests}
 use Rattle.layers.specs.declared.spare.Spare.{Spare}
 use Rattle.layers.specs.declared.spare.Spare.TheVariants.{Free, Spent, Of}
@@ -12,10 +11,7 @@ use Rattle.layers.proofs.Lows.{low_first, low_none, low_passes}
 use Rattle.layers.proofs.Moves.{place_self, place_apart, after_write}
 
 all_free : (n j : ℕ) → get_or (replicate n Free) j Free ≡ Free
-all_free n j = ⊎_elim
-    (λ h. get_or-replicate n j Free Free h)
-    (λ h. get_or_past (replicate n Free) j Free (omega (arith, length-replicate n Free)))
-    (cases_lt j n)
+all_free n j = grind (arith, common_steps, nat_tests)
 
 unused_place : (k b p : ℕ) → place_of k b (replicate most_spares Free) p ≡ p
 unused_place k b p =
@@ -53,27 +49,13 @@ retired_used Spent p e = e
 retired_used (Of x) p e = grind (arith, nat_tests)
 
 used_within : (table : List Spare) (j : ℕ) → is_free (get_or table j Free) ≡ false → j < length table
-used_within table j e = ⊎_elim
-    (λ (h : j < length table). h)
-    (λ h. absurd (both_ways (is_free (get_or table j Free)) e (ap is_free (get_or_past table j Free h))))
-    (cases_lt j (length table))
+used_within table j e = grind (arith, common_steps, nat_tests)
 
 used_moved : (table : List Spare) (n p j : ℕ) → is_free (get_or table j Free) ≡ false → is_free (get_or (moved_to table n p) j Free) ≡ false
-used_moved table n p j e =
-    let within = used_within table j e in
-    ⊎_elim
-    (λ (same : j ≡ n).
-    ap (λ i. is_free (get_or (moved_to table n p) i Free)) same ∙ ap is_free (get_or-set_same (map (retired p) table) n (Of p) Free (omega (arith, length-map table (retired p)))))
-    (λ ne.
-    ap is_free (get_or-set_other (map (retired p) table) n j (Of p) Free ne ∙ get_or-map (retired p) table j Free Free within)
-    ∙ retired_used (get_or table j Free) p e)
-    (cases_eq j n)
+used_moved table n p j e = grind (arith, common_steps, nat_tests)
 
 used_after : (k b : ℕ) (table : List Spare) (t : ℕ → Bool) (p j : ℕ) → is_free (get_or table j Free) ≡ false → is_free (get_or (table_after k b table t p) j Free) ≡ false
-used_after k b table t p j e = ⊎_elim
-    (λ y. ap (λ x. is_free (get_or x j Free)) (cond-true (t (place_of k b table p)) table (moved_to table (next_spare k b table t) p) y) ∙ e)
-    (λ y. ap (λ x. is_free (get_or x j Free)) (cond-false (t (place_of k b table p)) table (moved_to table (next_spare k b table t) p) y) ∙ used_moved table (next_spare k b table t) p j e)
-    (cases_Bool (t (place_of k b table p)))
+used_after k b table t p j e = grind (arith, common_steps, nat_tests)
 
 pub spare_laws : SpareLaws
 spare_laws = record {

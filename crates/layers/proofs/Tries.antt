@@ -1,6 +1,5 @@
 -- What a search among the spares answers. Assumes nothing.
-use Rattle.std.proofs.Common.{◌≡◌, ℕ, ◌+◌, ◌<◌, ◌≤◌, Bool, true, false, ◌&&◌, List, length, get_or, Some, None, sym, ap, ◌∙◌, ⊎_elim, arith}
-use Rattle.std.proofs.lemmas.Bool.{cases_lt, both_ways}
+use Rattle.std.proofs.Common.{◌≡◌, ℕ, ◌+◌, ◌<◌, Bool, true, false, ◌&&◌, List, length, get_or, Some, None, sym, ap, ◌∙◌, arith}
 use Rattle.std.proofs.lemmas.Bool.Decides.{nat_tests}
 use Rattle.cells.specs.Meaning.{Meaning}
 use Rattle.cells.specs.Calls.{accepts}
@@ -12,13 +11,7 @@ use Rattle.layers.proofs.Lows.{low_first, low_passes}
 
 -- the first that passes
 found_first : (t : ℕ → Bool) (k j : ℕ) → j < k → t j ≡ true → ((i : ℕ) → i < j → t i ≡ false) → found k (lowest t k) ≡ Some j
-found_first t k j under here before =
-    let le = low_first t k j under here in
-    let is : lowest t k ≡ j = ⊎_elim
-    (λ (h : lowest t k < j). absurd (both_ways (t (lowest t k)) (before (lowest t k) h) (low_passes t k (omega arith))))
-    (λ (h : j ≤ lowest t k). omega arith)
-    (cases_lt (lowest t k) j) in
-    grind (arith, nat_tests)
+found_first t k j under here before = grind (arith, nat_tests, low_first t k j under here, low_passes t k, before (lowest t k))
 
 -- the spares of a table, where the store below means m
 module _ (b : ℕ) (table : List Spare) (m : Meaning) (bytes : List ℕ) where
@@ -30,8 +23,4 @@ module _ (b : ℕ) (table : List Spare) (m : Meaning) (bytes : List ℕ) where
   next_none none =
       let t = usable b table (accepting m bytes) in
       let k = length table in
-      let over : k ≤ lowest t k = ⊎_elim
-      (λ (h : lowest t k < k). absurd (both_ways (t (lowest t k)) (none (lowest t k) h) (low_passes t k h)))
-      (λ h. h)
-      (cases_lt (lowest t k) k) in
-      grind (arith, nat_tests)
+      grind (arith, nat_tests, low_passes t k, none (lowest t k))
