@@ -2,7 +2,7 @@
 use Rattle.std.proofs.Common.{◌≡◌, ℕ, ◌+◌, ◌<◌, ◌≤◌, Bool, true, false, cond, ◌&&◌, ◌||◌, ltb, List, map, length, get_or, take, Some, None, sym, refl, ap, ◌∙◌, ⊎_elim, arith}
 use Rattle.std.proofs.lemmas.List.{get_or-set_same, get_or-set_other, get_or-map, get_or-take, length-map, length-take-le}
 use Rattle.std.proofs.lemmas.Bool.Decides.{nat_tests}
-use Rattle.std.proofs.lemmas.Bool.{cases_lt, cases_eq, cond-true, cond-false, both_ways, lt-ltb, le-ltb, ltb-true, eq-eqb, ne_eqb, and_parts, or_cases}
+use Rattle.std.proofs.lemmas.Bool.{cond-true, cond-false, both_ways, lt-ltb, le-ltb, ltb-true, eq-eqb, and_parts, or_cases}
 use Rattle.layers.specs.declared.spare.Spare.{Spare}
 use Rattle.layers.specs.declared.spare.Spare.TheVariants.{Free, Spent, Of}
 use Rattle.layers.specs.Spared.{is_of, is_free, retired, own_spare, place_of, usable, next_spare, takes_by, target, moved_to, table_after, place_below}
@@ -71,20 +71,18 @@ module _ (k b : ℕ) (table : List Spare) (long : k ≤ length table) where
 module _ (k b : ℕ) (table : List Spare) where
   -- two cells have two places
   pub place_apart : (p q : ℕ) → p < b → q < b → (q ≡ p → ⊥) → place_of k b table q ≡ place_of k b table p → ⊥
-  place_apart p q hp hq ne same = ⊎_elim
-      (λ (op : own_spare k table p < k). ⊎_elim
-      (λ (oq : own_spare k table q < k).
-      let equal : own_spare k table q ≡ own_spare k table p = omega (arith, same, place_own k b table p op, place_own k b table q oq) in
-      ne (one_cell (get_or table (own_spare k table p) Free) p q
-      (low_passes (λ j. is_of p (get_or table j Free)) k op)
-      (ap (λ j. is_of q (get_or table j Free)) (sym equal) ∙ low_passes (λ j. is_of q (get_or table j Free)) k oq)))
-      (λ (oq : k ≤ own_spare k table q). omega (arith, same, place_own k b table p op, place_self k b table q oq))
-      (cases_lt (own_spare k table q) k))
-      (λ (op : k ≤ own_spare k table p). ⊎_elim
-      (λ (oq : own_spare k table q < k). omega (arith, same, place_self k b table p op, place_own k b table q oq))
-      (λ (oq : k ≤ own_spare k table q). ne (sym (place_self k b table q oq) ∙ same ∙ place_self k b table p op))
-      (cases_lt (own_spare k table q) k))
-      (cases_lt (own_spare k table p) k)
+  place_apart p q hp hq ne same =
+      grind (
+        arith,
+        nat_tests,
+        place_own k b table p,
+        place_own k b table q,
+        place_self k b table p,
+        place_self k b table q,
+        low_passes (λ j. is_of p (get_or table j Free)) k,
+        low_passes (λ j. is_of q (get_or table j Free)) k,
+        one_cell (get_or table (own_spare k table p) Free) p q,
+      )
 
   -- which cells take a write hangs on the cells below alone
   pub takes_same : (t u : ℕ → Bool) → ((y : ℕ) → y < b + k → t y ≡ u y) → (q : ℕ) → q < b → takes_by k b table t q ≡ takes_by k b table u q
@@ -102,18 +100,10 @@ module _ (k b : ℕ) (table : List Spare) (p j : ℕ) (within : j < k) (long : k
 
   own_moved : own_spare k (moved_to table j p) p ≡ j
   own_moved = low_only (λ i. is_of p (get_or (moved_to table j p) i Free)) k j within (ap (is_of p) at_j ∙ eq-eqb p p refl)
-      (λ i hi e. ⊎_elim
-      (λ same. same)
-      (λ ne. absurd (both_ways (is_of p (get_or (moved_to table j p) i Free)) (ap (is_of p) (at_other i hi ne) ∙ retired_own (get_or table i Free) p) e))
-      (cases_eq i j))
+      (λ i hi e. grind (arith, nat_tests, at_other i hi, retired_own (get_or table i Free) p))
 
   own_kept : (q : ℕ) → (q ≡ p → ⊥) → own_spare k (moved_to table j p) q ≡ own_spare k table q
-  own_kept q ne = low_same _ _ k (λ i hi. ⊎_elim
-      (λ (same : i ≡ j).
-      ap (λ i. is_of q (get_or (moved_to table j p) i Free)) same ∙ ap (is_of q) at_j ∙ ne_eqb p q (λ e. ne (sym e))
-      ∙ sym (free_of (get_or table j Free) q unused) ∙ ap (λ i. is_of q (get_or table i Free)) (sym same))
-      (λ other. ap (is_of q) (at_other i hi other) ∙ retired_other (get_or table i Free) p q ne)
-      (cases_eq i j))
+  own_kept q ne = low_same _ _ k (λ i hi. grind (arith, nat_tests, at_j, at_other i hi, free_of (get_or table j Free) q unused, retired_other (get_or table i Free) p q ne))
 
   place_moved : place_of k b (moved_to table j p) p ≡ b + j
   place_moved = place_own k b (moved_to table j p) p (omega (arith, own_moved)) ∙ ap (λ o. b + o) own_moved
@@ -122,12 +112,7 @@ module _ (k b : ℕ) (table : List Spare) (p j : ℕ) (within : j < k) (long : k
   place_kept q ne = place_same k b table (moved_to table j p) q (own_kept q ne)
 
   apart_from_free : (q : ℕ) → q < b → place_of k b table q ≡ b + j → ⊥
-  apart_from_free q hq same = ⊎_elim
-      (λ (oq : own_spare k table q < k).
-      let equal : own_spare k table q ≡ j = omega (arith, same, place_own k b table q oq) in
-      both_ways (is_of q (get_or table j Free)) (free_of (get_or table j Free) q unused) (ap (λ i. is_of q (get_or table i Free)) (sym equal) ∙ low_passes (λ j. is_of q (get_or table j Free)) k oq))
-      (λ (oq : k ≤ own_spare k table q). omega (arith, same, place_self k b table q oq))
-      (cases_lt (own_spare k table q) k)
+  apart_from_free q hq same = grind (arith, nat_tests, place_own k b table q, place_self k b table q, free_of (get_or table j Free) q unused, low_passes (λ j. is_of q (get_or table j Free)) k)
 
 -- a write to cell p that is taken, where t tells which cells below take it
 module _ (k b : ℕ) (table : List Spare) (t : ℕ → Bool) (p : ℕ) (low : p < b) (long : t (place_of k b table p) ≡ false → k ≤ length table) (taken : takes_by k b table t p ≡ true) where
