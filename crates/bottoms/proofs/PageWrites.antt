@@ -1,10 +1,10 @@
 -- What a write makes of a page, and of the flash around it. Assumes nothing.
-use Rattle.std.proofs.Common.{◌≡◌, ℕ, ◌+◌, ◌-◌, ◌*◌, ◌/◌, ◌%◌, ◌^◌, ◌<◌, ◌≤◌, true, cond, eqb, ltb, List, [], ◌++◌, length, get_or, take, drop, replicate, Ok, Err, sym, refl, ap, ◌∙◌, subst, ⊎_elim, arith, rules}
+use Rattle.std.proofs.Common.{◌≡◌, ℕ, ◌+◌, ◌-◌, ◌*◌, ◌/◌, ◌%◌, ◌^◌, ◌<◌, ◌≤◌, true, cond, ltb, List, [], ◌++◌, length, take, drop, replicate, Ok, Err, sym, refl, ap, ◌∙◌, subst, arith, rules}
 use native.Mathlib.Nat.{div-div-eq-div-mul}
 use borrow.Rule.Slice.PartMut.{put_mid}
 use Rattle.std.proofs.Math.Seq.{take-append-add}
-use Rattle.std.proofs.lemmas.List.{places, get_or-append_right, take_at, drop_at, drop_all, append-nil, append_assoc, length-drop, length-append}
-use Rattle.std.proofs.lemmas.Bool.{cases_eq, cond-true, cond-false, eq-eqb, ne_eqb}
+use Rattle.std.proofs.lemmas.List.{places, take_at, drop_at, drop_all, append-nil, append_assoc, length-drop, length-append}
+use Rattle.std.proofs.lemmas.Bool.{cond-true}
 use Rattle.std.proofs.lemmas.Bool.Decides.{nat_tests}
 use Rattle.cells.specs.declared.fault.StoreFault.TheVariants.{Worn}
 use Rattle.cells.specs.Calls.{WroteBy, padded}
@@ -28,19 +28,10 @@ four_is n small = omega (arith, div-div-eq-div-mul n 256 256, div-div-eq-div-mul
 
 -- a page tells the erases left that were put into it
 left_of : (bytes : List ℕ) (left : ℕ) → length bytes ≤ 239 → left < 2 ^ 32 → erases_left (page_of bytes left) ≡ left
-left_of bytes left short small =
-    let rest = replicate 13 255 ++ least_first left in
-    let whole : length (padded 239 bytes) ≡ 239 = search (rules, places) in
-    let at252 : get_or (page_of bytes left) 252 0 ≡ get_or rest 13 0 = get_or-append_right (padded 239 bytes) rest 239 252 0 whole (omega arith) in
-    let at253 : get_or (page_of bytes left) 253 0 ≡ get_or rest 14 0 = get_or-append_right (padded 239 bytes) rest 239 253 0 whole (omega arith) in
-    let at254 : get_or (page_of bytes left) 254 0 ≡ get_or rest 15 0 = get_or-append_right (padded 239 bytes) rest 239 254 0 whole (omega arith) in
-    let at255 : get_or (page_of bytes left) 255 0 ≡ get_or rest 16 0 = get_or-append_right (padded 239 bytes) rest 239 255 0 whole (omega arith) in
-    rw (at252, at253, at254, at255) (four_is left small)
+left_of bytes left short small = grind (arith, places, short, four_is left small)
 
 length_page : (bytes : List ℕ) (left : ℕ) → length bytes ≤ 239 → length (page_of bytes left) ≡ 256
-length_page bytes left short =
-    let whole : length (padded 239 bytes) ≡ 239 = search (rules, places) in
-    length-append (padded 239 bytes) (replicate 13 255 ++ least_first left) ∙ omega arith
+length_page bytes left short = search (rules, places, short)
 
 one_less : (x : ℕ) → ltb 0 (x - 1) ≡ ltb 1 x
 one_less x = grind (arith, nat_tests)
@@ -84,17 +75,7 @@ module _ (buf bytes : List ℕ) (p : ℕ) (w : PageWrite buf p bytes) where
   law_length = length_with buf page 256 p room whole
 
   wear : (q : ℕ) → ltb 0 (erases_left (page_at (flash_buffer buf p bytes) q)) ≡ takes_after buf p q
-  wear q = ⊎_elim
-      (λ (e : q ≡ p).
-      ap (λ q. ltb 0 (erases_left (page_at (flash_buffer buf p bytes) q))) e
-      ∙ ap (ltb 0) law_lowered
-      ∙ one_less (erases_left (page_at buf p))
-      ∙ ap (λ q. ltb 1 (erases_left (page_at buf q))) (sym e)
-      ∙ ap (λ k. ltb k (erases_left (page_at buf q))) (sym (cond-true {A = ℕ} (eqb q p) 1 0 (eq-eqb q p e))))
-      (λ ne.
-      ap (λ page. ltb 0 (erases_left page)) (law_others q ne)
-      ∙ ap (λ k. ltb k (erases_left (page_at buf q))) (sym (cond-false {A = ℕ} (eqb q p) 1 0 (ne_eqb q p ne))))
-      (cases_eq q p)
+  wear q = grind (arith, nat_tests, law_lowered, law_others q)
 
   pub flash_written : ltb 0 (erases_left (page_at buf p)) ≡ true → WroteBy (flash buf) p bytes (Ok tt) (flash (flash_buffer buf p bytes))
   flash_written takes = record {

@@ -1,17 +1,12 @@
 -- Where a part lies, and what another part in its place leaves. Assumes nothing.
-use Rattle.std.proofs.Common.{◌≡◌, ℕ, zero, suc, ◌+◌, ◌*◌, ◌<◌, ◌≤◌, ◌⊎◌, List, length, get_or, take, drop, sym, ap, ◌∙◌, inl, inr, ⊎_elim, mul-le-mul_right, zero-mul, suc-mul, add-one, arith, rules}
+use Rattle.std.proofs.Common.{◌≡◌, ℕ, zero, suc, ◌+◌, ◌*◌, ◌<◌, ◌≤◌, ◌⊎◌, List, length, get_or, take, drop, sym, ap, ◌∙◌, mul-le-mul_right, zero-mul, suc-mul, add-one, arith, rules}
 use Rattle.std.specs.Simd.{first_chunks}
 use Rattle.std.proofs.lemmas.List.{places, same_lists, drop-drop}
-use Rattle.std.proofs.lemmas.Bool.{cases_order}
 use Rattle.cells.specs.Calls.{padded}
 use Rattle.bottoms.specs.Parts.{part_at, with_part, put}
 
 apart : (n p q : ℕ) → (q ≡ p → ⊥) → (q * n + n ≤ p * n) ⊎ (p * n + n ≤ q * n)
-apart n p q ne =
-    ⊎_elim (λ e. absurd (ne e)) (⊎_elim
-    (λ h. inl (omega (arith, mul-le-mul_right {m = q + 1} {n = p} n (omega arith), suc-mul q n, ap (λ k. k * n) (add-one q))))
-    (λ h. inr (omega (arith, mul-le-mul_right {m = p + 1} {n = q} n (omega arith), suc-mul p n, ap (λ k. k * n) (add-one p)))))
-    (cases_order q p)
+apart n p q ne = grind (arith, mul-le-mul_right {m = q + 1} {n = p} n, mul-le-mul_right {m = p + 1} {n = q} n, suc-mul p n, suc-mul q n, add-one p, add-one q)
 
 -- bytes that are written where a part lies
 pub put_part : (buf ys : List ℕ) (n p : ℕ) → p * n + n ≤ length buf → length ys ≡ n → put buf (p * n) ys ≡ with_part n buf p ys

@@ -38,10 +38,7 @@ fn erases_left(page: &Page) -> u32
 fn spend(left: u32, p: usize) -> Result<u32, StoreFault>
     ensures { result ≡ (if nat_lt 0 left then Ok (left - 1) else Err (Worn p)) }
 {
-    if left == 0 {
-        return Err(StoreFault::Worn(p));
-    }
-    Ok(left - 1)
+    left.checked_sub(1).ok_or(StoreFault::Worn(p))
 }
 
 // A page with these bytes in its cell and so many erases left.

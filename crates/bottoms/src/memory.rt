@@ -42,7 +42,7 @@ impl<B: Buffer> Memory<B> {
         ensures wished { self.new.wished ≡ self.old.wished }
     {
         let size = self.size();
-        let cell: [u8; LARGEST_CELL] = padded(bytes);
+        let cell = padded::<LARGEST_CELL>(bytes);
         self.buf.put(p * size, &cell[..size]);
     }
 }

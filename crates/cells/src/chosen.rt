@@ -6,7 +6,7 @@ use crate::fault::StoreFault;
 use crate::store::Store;
 use either::{Either, for_both};
 
-/// The store that is there.
+/// It means what the store that is there means.
 impl<L: Store, R: Store> Store for Either<L, R> {
     ghost meaning = { either L.Store.meaning R.Store.meaning };
 
