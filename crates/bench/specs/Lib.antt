@@ -1,3 +1,1 @@
-pub mod Bottoms
-pub mod Layers
-pub mod Owned
+pub mod Chosen

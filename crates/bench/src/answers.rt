@@ -1,46 +1,16 @@
 // What a store on the bench answers.
-use crate::script::LONGEST_LIST;
+use crate::lists::{patterned, spoiled};
 use crate::stores::Pile;
-use cells::fault::StoreFault;
 use cells::store::Store;
 use std::alloc::{AllocError, Global};
-use std::fmt;
 
-/// What a buffer holds before a call.
-const UNTOUCHED: u8 = 0xA5;
-
-/// Bytes as a script writes them.
-#[derive(Drop)]
-pub struct Hex<'a>(pub &'a [u8]);
-
-impl<'a> fmt::Display for Hex<'a> {
-    fn fmt<W: fmt::Write>(&self, f: &mut fmt::Formatter<W>) -> fmt::Result {
-        if self.0.is_empty() {
-            return write!(f, "-");
-        }
-        for b in self.0 {
-            write!(f, "{b:02x}")?;
-        }
-        Ok(())
+// Bytes as a script writes them.
+fn hex_text(heap: Global, bytes: &[u8]) -> Result<String, AllocError> {
+    if bytes.is_empty() {
+        String::from_str(heap, "-")
+    } else {
+        hex::encode(heap, bytes)
     }
-}
-
-fn untouched(bytes: &[u8]) -> bool {
-    for b in bytes {
-        if *b != UNTOUCHED {
-            return false;
-        }
-    }
-    true
-}
-
-fn refused(heap: Global, fault: StoreFault) -> Result<String, AllocError> {
-    let (kind, cell) = match fault {
-        StoreFault::Place(p) => ("place", p),
-        StoreFault::Length(p) => ("length", p),
-        StoreFault::Worn(p) => ("worn", p),
-    };
-    format!(in heap; "refused {kind} cell={cell}")
 }
 
 /// A word and the size of a store.
@@ -52,18 +22,15 @@ pub(crate) fn shape(heap: Global, word: &str, store: &Pile) -> Result<String, Al
 
 /// The answer to `read`.
 pub(crate) fn read(heap: Global, store: &Pile, p: usize, n: usize) -> Result<String, AllocError> {
-    let mut out = vec![in heap; UNTOUCHED; n.min(LONGEST_LIST)]?;
+    let mut out: Vec<u8> = patterned(heap, n)?;
     match store.read(p, out.as_mut_slice()) {
         Ok(()) => {
-            let hex = Hex(out.as_slice());
-            format!(in heap; "bytes {hex}")
+            let bytes = hex_text(heap, out.as_slice())?;
+            format!(in heap; "bytes {bytes}")
         }
         Err(fault) => {
-            let mut text = refused(heap, fault)?;
-            if !untouched(out.as_slice()) {
-                text.push_str(" spoiled")?;
-            }
-            Ok(text)
+            let end = spoiled(out.as_slice(), 0);
+            format!(in heap; "refused {fault}{end}")
         }
     }
 }
@@ -78,6 +45,6 @@ pub(crate) fn write(
     let written = String::from_str(heap, "written")?;
     match store.write(p, bytes) {
         Ok(()) => Ok(written),
-        Err(fault) => refused(heap, fault),
+        Err(fault) => format!(in heap; "refused {fault}"),
     }
 }

@@ -1,100 +1,87 @@
 // Lines of a script: words, `key=value` pairs, numbers and bytes.
-ghost use Rattle.std.specs.Prelude.{◌*◌, ◌<◌, ◌≤◌, length, IfSome, IfOk, vec_len};
+ghost use Rattle.std.specs.Prelude.{◌*◌, ◌≤◌, length, IfOk, vec_len};
 
-use std::alloc::{AllocError, AllocFailed, Global};
+use std::alloc::{AllocError, Global};
+use std::collections::BTreeMap;
+use std::error::Error;
+use std::num::TryFromIntError;
 
-/// The longest buffer or ramp of a script.
-pub(crate) const LONGEST: u64 = 1048576;
-
-/// The longest list that is really made: no row and no cell is longer, so a longer list is answered as one of this length.
-pub(crate) const LONGEST_LIST: usize = 65536;
+// The longest buffer or ramp of a script.
+const LONGEST_BUFFER: usize = 1048576;
 
 /// A line that is no command, or one for which there is not enough memory. Either is answered `error`, so no more is told.
 #[derive(Clone, Copy, PartialEq, Eq, Debug)]
 pub struct Wrong;
 
-impl From<AllocError> for Wrong {
-    fn from(_e: AllocError) -> Wrong {
+impl<E: Error + Drop> From<E> for Wrong {
+    fn from(_e: E) -> Wrong {
         Wrong
     }
 }
 
-impl<T: Drop> From<AllocFailed<T>> for Wrong {
-    fn from(_e: AllocFailed<T>) -> Wrong {
-        Wrong
+/// The values of the keys that a line has and no command has taken.
+#[derive(Drop)]
+pub struct Keys<'a>(BTreeMap<&'a str, &'a str>);
+
+impl<'a> Keys<'a> {
+    // A key that stands already is refused.
+    fn put(&mut self, key: &'a str, value: &'a str) -> Result<(), Wrong> {
+        match self.0.insert(key, value)? {
+            None => Ok(()),
+            Some(_) => Err(Wrong),
+        }
+    }
+
+    /// Takes a key out, and reads its value.
+    pub(crate) fn take<T, F: FnOnce(&'a str) -> Result<T, Wrong>>(
+        &mut self,
+        key: &str,
+        read: F,
+    ) -> Result<Option<T>, Wrong>
+        requires { F.IsAlwaysCallable read }
+    {
+        self.0.remove(key).map(read).transpose()
+    }
+
+    /// Refuses the keys that are left.
+    pub(crate) fn none_left(&self) -> Result<(), Wrong> {
+        if self.0.is_empty() {
+            Ok(())
+        } else {
+            Err(Wrong)
+        }
     }
 }
 
-/// The words of a line, and its pairs.
+/// The words of a line, and its keys.
 #[derive(Drop)]
 pub struct Line<'a> {
     pub words: Vec<&'a str>,
-    pub pairs: Vec<(&'a str, &'a str)>,
+    pub keys: Keys<'a>,
 }
 
 impl<'a> Line<'a> {
     /// Splits a line at its spaces.
     pub(crate) fn split(heap: Global, text: &'a str) -> Result<Line<'a>, Wrong> {
         let mut words = Vec::new(heap);
-        let mut pairs = Vec::new(heap);
+        let mut keys = Keys(BTreeMap::new(heap));
         for word in text.split_whitespace() {
             match word.split_once('=') {
-                Some(pair) => pairs.push(pair)?,
+                Some((key, value)) => keys.put(key, value)?,
                 None => words.push(word)?,
             }
         }
-        Ok(Line { words, pairs })
-    }
-
-    /// The value of a key.
-    pub(crate) fn value(&self, key: &str) -> Option<&'a str> {
-        for (k, v) in self.pairs.iter() {
-            if *k == key {
-                return Some(*v);
-            }
-        }
-        None
-    }
-
-    /// Refuses every key.
-    pub(crate) fn no_keys(&self) -> Result<(), Wrong> {
-        if self.pairs.is_empty() {
-            Ok(())
-        } else {
-            Err(Wrong)
-        }
-    }
-
-    /// Refuses a key that is not among `keys`, and one that stands twice.
-    pub(crate) fn only_keys(&self, keys: &[&str]) -> Result<(), Wrong> {
-        for (i, (k, _)) in self.pairs.iter().enumerate() {
-            if !(&*keys).contains(k) {
-                return Err(Wrong);
-            }
-            for (before, _) in self.pairs.iter().take(i) {
-                if *before == *k {
-                    return Err(Wrong);
-                }
-            }
-        }
-        Ok(())
+        Ok(Line { words, keys })
     }
 }
 
 /// The line without its comment.
 pub(crate) fn uncommented(line: &[u8]) -> &[u8] {
-    for (i, b) in line.iter().enumerate() {
-        if *b == b'#' {
-            return &line[0..i];
-        }
-    }
-    line
+    line.split(|b| *b == b'#').next().unwrap_or(line)
 }
 
-/// A number in decimal digits, or in hexadecimal ones after `0x`, up to `most`.
-pub(crate) fn number(text: &str, most: u64) -> Result<u64, Wrong>
-    ensures { IfOk result (λ n. n ≤ most) }
-{
+/// A number in decimal digits, or in hexadecimal ones after `0x`, as far as its type goes.
+pub(crate) fn number<T: TryFrom<u64, Error = TryFromIntError>>(text: &str) -> Result<T, Wrong> {
     let (digits, radix) = match text.strip_prefix("0x") {
         Some(rest) => (rest, 16),
         None => (text, 10),
@@ -103,63 +90,51 @@ pub(crate) fn number(text: &str, most: u64) -> Result<u64, Wrong>
     if digits.starts_with('+') {
         return Err(Wrong);
     }
-    let Ok(n) = u64::from_str_radix(digits, radix) else {
-        return Err(Wrong);
-    };
-    if n > most {
-        return Err(Wrong);
-    }
-    Ok(n)
+    Ok(T::try_from(u64::from_str_radix(digits, radix)?)?)
 }
 
-/// A number of one byte.
-pub(crate) fn byte(text: &str) -> Result<u8, Wrong> {
-    Ok(number(text, 255)? as u8)
-}
-
-/// A number of two bytes.
-pub(crate) fn short(text: &str) -> Result<u16, Wrong> {
-    Ok(number(text, 65535)? as u16)
-}
-
-/// A number of four bytes.
-pub(crate) fn long(text: &str) -> Result<u32, Wrong> {
-    Ok(number(text, 4294967295)? as u32)
-}
-
-// The value of a hexadecimal digit.
-fn digit(b: u8) -> Option<u8>
-    ensures { IfSome result (λ d. d < 16) }
+/// The length of a buffer or a ramp.
+pub(crate) fn length(text: &str) -> Result<usize, Wrong>
+    ensures { IfOk result (λ n. n ≤ 1048576) }
 {
-    match b {
-        b'0'..=b'9' => Some(b - b'0'),
-        b'a'..=b'f' => Some(b - b'a' + 10),
-        b'A'..=b'F' => Some(b - b'A' + 10),
-        _ => None,
+    let length = number(text)?;
+    if length > LONGEST_BUFFER {
+        return Err(Wrong);
     }
+    Ok(length)
+}
+
+/// A number of four bytes, as a place, a count or a length.
+pub(crate) fn size(text: &str) -> Result<usize, Wrong> {
+    Ok(number::<u32>(text)? as usize)
 }
 
 /// Bytes of two digits each; `-` is no byte.
 pub(crate) fn bytes(heap: Global, text: &str) -> Result<Vec<u8>, Wrong>
     ensures { IfOk result (λ v. 2 * vec_len v ≤ length text.now) }
 {
-    let mut out = Vec::new(heap);
-    if text == "-" {
-        return Ok(out);
+    match text {
+        "" => Err(Wrong),
+        "-" => Ok(Vec::new(heap)),
+        digits => Ok(hex::decode(heap, digits)?),
     }
-    let digits = text.as_bytes();
-    let n = digits.len() / 2;
-    if n == 0 || digits.len() != 2 * n {
-        return Err(Wrong);
-    }
-    for i in 0..n {
-        let Some(high) = digit(digits[2 * i]) else {
-            return Err(Wrong);
-        };
-        let Some(low) = digit(digits[2 * i + 1]) else {
-            return Err(Wrong);
-        };
-        out.push(high * 16 + low)?;
-    }
-    Ok(out)
+}
+
+// Byte j of a ramp counts up from the start, and by one more for each 256 bytes before it.
+fn ramp(heap: Global, length: usize, start: u8) -> Result<Vec<u8>, AllocError> {
+    let byte = |j| {
+        let low = (j % 256) as u8;
+        let turns = (j / 256 % 256) as u8;
+        start.wrapping_add(low).wrapping_add(turns)
+    };
+    (0..length).map(byte).collect(heap)
+}
+
+/// The block of a `load`: a ramp, or bytes.
+pub(crate) fn block(heap: Global, text: &str) -> Result<Vec<u8>, Wrong> {
+    let Some(text) = text.strip_prefix("ramp:") else {
+        return bytes(heap, text);
+    };
+    let (count, start) = text.split_once(':').unwrap_or((text, "0"));
+    Ok(ramp(heap, length(count)?, number(start)?)?)
 }
