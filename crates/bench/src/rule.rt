@@ -19,8 +19,8 @@ impl RuleName {
     /// The FragAlgo that the rule serves.
     pub(crate) fn algo(self) -> u8 {
         match self {
-            RuleName::Published => 0,
-            RuleName::Repeat => 7,
+            RuleName::Published => Published::ALGO,
+            RuleName::Repeat => Repeat::ALGO,
         }
     }
 }

@@ -52,21 +52,14 @@ fn page_of(bytes: &[u8], left: u32) -> Page
     page
 }
 
-// The proofs are cited here, so that the public function has no proof file of its own.
-fn proved() -> u8
-    ensures count { result ≡ 5 }
-    ensures laws { FlashLaws }
-{
-    5
-}
-
 /// What an accepted write makes of a buffer of pages: the cell is the bytes and then zeros, its filler 0xFF and its erases left one less; every other
 /// page stays, and so does the length. Answers how many laws these are.
+#[tactic(auto, using(crate::proofs::PageWrites::flash_laws))]
 pub fn flash_laws_hold() -> u8
     ensures count { result ≡ 5 }
     ensures laws { FlashLaws }
 {
-    proved()
+    5
 }
 
 /// Flash over the whole pages of a buffer, at most 512 of them. What lies beyond them is never touched.

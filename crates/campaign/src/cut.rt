@@ -6,9 +6,6 @@ use rules::line_rule::LineRule;
 use rules::places::Places;
 use rules::published::Published;
 
-// The FragAlgo of the published rule.
-const ALGO: u8 = 0;
-
 /// A block, how it is cut, and room for one fragment and its row.
 #[derive(Drop)]
 pub struct Cut {
@@ -28,7 +25,7 @@ impl Cut {
             .and_then(|length| layout_of(length, size))
             .ok_or(Fault::Large { length, size })?;
         let m = layout.fragments;
-        if !Published.serves(ALGO, m) {
+        if !Published.serves(Published::ALGO, m) {
             return Err(Fault::Small { fragments: m, size });
         }
         let padding = layout.padding;
@@ -52,7 +49,7 @@ impl Cut {
     pub fn print(&mut self, rt: &HostRuntime, n: u16) -> Result<(), Fault> {
         let m = self.fragments();
         let size = self.fragment.len();
-        Published.fill(ALGO, m, n, self.row.as_mut_slice())?;
+        Published.fill(Published::ALGO, m, n, self.row.as_mut_slice())?;
         code_into(
             self.block.as_slice(),
             size,

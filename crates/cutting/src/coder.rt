@@ -39,15 +39,6 @@ pub fn code_into(block: &[u8], size: usize, marks: &[bool], out: &mut [u8]) -> R
     Ok(())
 }
 
-// The proofs are cited here, so that the public function has no proof file of its own.
-fn proved() -> u8
-    ensures count { result ≡ 2 }
-    ensures block { CutIsBlock }
-    ensures whole { CutIsWhole }
-{
-    2
-}
-
 /// A list of bytes cut into fragments is a block, and the fragments put together again are that list and then zeros.
 /// Answers how many theorems these are.
 pub fn cutting_holds() -> u8
@@ -55,5 +46,5 @@ pub fn cutting_holds() -> u8
     ensures block { CutIsBlock }
     ensures whole { CutIsWhole }
 {
-    proved()
+    2
 }

@@ -88,22 +88,15 @@ impl<S: Store> Spares<S> {
     }
 }
 
-// The proofs are cited here, so that the public function has no proof file of its own.
-fn proved() -> u8
-    ensures count { result ≡ 11 }
-    ensures laws { SpareLaws }
-{
-    11
-}
-
 /// Where cells lie: at first each at itself, and never two at one place. A cell takes a write exactly when its place or an unused spare does. A write
 /// goes to the place if that takes it, else to the lowest unused spare that does, which is the place from then on; the other cells' places stay. A
 /// spare once used stays used. Answers how many laws these are.
+#[tactic(auto, using(crate::proofs::PlaceLaws::spare_laws))]
 pub fn spare_laws_hold() -> u8
     ensures count { result ≡ 11 }
     ensures laws { SpareLaws }
 {
-    proved()
+    11
 }
 
 /// A cell's place is first itself. A write to a cell whose place takes none goes to the lowest unused spare that takes one,

@@ -208,6 +208,7 @@ pub fn read_table(heap: Global, text: &[u8]) -> Result<Table, TextFault>
     ensures { Reads (length (lines_of text.now)) result (read_text text.now) }
 {
     let mut reading = Reading::Start;
+    // Kept: counted by hand, since the number of lines is needed after the loop too.
     let mut line = 0;
     for piece in text.split_inclusive(|b| *b == b'\n') {
         line += 1;

@@ -2,7 +2,7 @@
 use Rattle.std.proofs.Common.{◌≡◌, ℕ, zero, suc, ◌%◌, ◌^◌, ◌<◌, ◌≤◌, false, ap, ◌∙◌, arith}
 use Rattle.std.proofs.lemmas.Bool.{le-ltb, ltb-true, ltb-false}
 use Rattle.rules.specs.Draws.{step, width, within, draw, drawn, seed}
-use Rattle.rules.specs.Bound.{RegisterSmall, rejected, reached, after, FewRejected, NoLongRun, DrawsTheFirst}
+use Rattle.rules.specs.Bound.{RegisterSmall, Bounded, rejected, reached, after, FewRejected, NoLongRun, DrawsTheFirst}
 use Rattle.rules.proofs.Rejecting.{by_next, few, rejected_none, rejected_out}
 use Rattle.rules.proofs.Turns.{drawn_below, draw_in, draw_out}
 
@@ -53,3 +53,6 @@ unfolding drawn
 draws_the_first m x h4 h below =
     let f = first 21 m x (omega (arith, few 21 m x h4 h below)) in
     (f.0, omega (arith, f.1.0), f.1.1, f.1.2, f.1.3)
+
+pub bounded : Bounded 20
+bounded = record { few = few_rejected; register = register_small; run = no_long_run; first = draws_the_first }

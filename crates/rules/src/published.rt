@@ -13,6 +13,11 @@ use coding::MOST_FRAGMENTS;
 #[derive(Clone, Copy)]
 pub struct Published;
 
+impl Published {
+    /// The FragAlgo that the rule serves.
+    pub const ALGO: u8 = 0;
+}
+
 impl LineRule for Published {
     ghost served = { λ _. published_serves };
 
@@ -27,7 +32,7 @@ impl LineRule for Published {
     ghost whole = { λ _. published_whole };
 
     fn serves(&self, algo: u8, m: u16) -> bool {
-        algo == 0 && (4..=MOST_FRAGMENTS).contains(&m)
+        algo == Self::ALGO && (4..=MOST_FRAGMENTS).contains(&m)
     }
 
     fn fill(&self, algo: u8, m: u16, n: u16, marks: &mut [bool]) -> Result<(), RowFault> {
@@ -41,18 +46,11 @@ impl LineRule for Published {
     }
 }
 
-// The proofs are cited here, so that the public function has no proof file of its own.
-fn proved() -> u8
-    ensures answer { result ≡ 20 }
-    ensures bounded { Bounded result }
-{
-    20
-}
-
 /// The bound on how many values fall out in a row in one draw, on which the end of a draw rests. A draw takes the first value that does not.
+#[tactic(auto, using(crate::proofs::Runs::bounded))]
 pub fn most_rejected() -> u8
     ensures answer { result ≡ 20 }
     ensures bounded { Bounded result }
 {
-    proved()
+    20
 }

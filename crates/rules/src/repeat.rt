@@ -19,6 +19,11 @@ fn place(m: u16, n: u16) -> u16
 #[derive(Clone, Copy)]
 pub struct Repeat;
 
+impl Repeat {
+    /// The FragAlgo that the rule serves.
+    pub const ALGO: u8 = 7;
+}
+
 impl LineRule for Repeat {
     ghost served = { λ _. repeat_serves };
 
@@ -33,7 +38,7 @@ impl LineRule for Repeat {
     ghost whole = { λ _. repeat_whole };
 
     fn serves(&self, algo: u8, m: u16) -> bool {
-        algo == 7 && (1..=MOST_FRAGMENTS).contains(&m)
+        algo == Self::ALGO && (1..=MOST_FRAGMENTS).contains(&m)
     }
 
     fn fill(&self, algo: u8, m: u16, n: u16, marks: &mut [bool]) -> Result<(), RowFault> {

@@ -5,20 +5,13 @@ ghost use Rattle.std.specs.Prelude.{◌≡◌, length};
 ghost use Rattle.std.specs.List.{AllByRecursion};
 ghost use Rattle.worked_cases.specs.Table.{table, Holds};
 
-// The proof is cited here, so that the public function has no proof file of its own.
-fn computed() -> usize
-    ensures count { result ≡ length table }
-    ensures cases { AllByRecursion Holds table }
-{
-    9
-}
-
 /// Every case of the table holds of the definitions that rules and decoding are proved against. Answers how many there are.
+#[tactic(auto, unfolding(rules::specs::Draws::step, rules::specs::Draws::within, rules::specs::Draws::draw, rules::specs::Draws::drawn, rules::specs::Draws::draws))]
 pub fn cases_hold() -> usize
     ensures count { result ≡ length table }
     ensures cases { AllByRecursion Holds table }
 {
-    computed()
+    9
 }
 
 #[cfg(test)]
