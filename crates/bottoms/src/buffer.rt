@@ -2,7 +2,8 @@
 ghost use Rattle.std.specs.Prelude.{◌≡◌, ℕ, List, ⊤};
 ghost use Rattle.bottoms.specs.Parts.{put};
 
-/// Who holds the bytes that a bottom lies in: a lent slice, an array, a `Vec`, or any of them lent. None of these is grown or made here.
+/// Who holds the bytes that a bottom lies in: a lent slice, an array, a `Vec`, or any of them lent. A holder keeps its length.
+// Kept: not the library's `AsSlice`, which a lent array lacks; and a part is put in, since a body that lends the bytes on gets no proof.
 pub trait Buffer {
     ghost bytes: { Self → List ℕ };
 
@@ -53,7 +54,7 @@ impl<const N: usize> Buffer for [u8; N] {
     ghost name = { λ _. tt };
 
     fn bytes(&self) -> &[u8] {
-        self
+        &self[..N]
     }
 
     fn put(&mut self, at: usize, part: &[u8]) {

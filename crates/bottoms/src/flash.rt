@@ -2,14 +2,14 @@
 ghost use Rattle.std.specs.Prelude.{◌≡◌, ◌-◌, ◌*◌, ◌/◌, ◌<◌, ◌≤◌, length, is_ok, if◌then◌else◌, Ok, Err, nat_lt};
 ghost use Rattle.std.specs.Simd.{first_chunks};
 ghost use Rattle.cells.specs.declared.fault.StoreFault.TheVariants.{Worn};
-ghost use Rattle.cells.specs.Calls.{WroteBy};
+ghost use Rattle.cells.specs.Calls.{ReadBy, WroteBy};
 ghost use Rattle.bottoms.specs.Parts.{whole_parts};
 ghost use Rattle.bottoms.specs.Pages.{page_bytes, flash_cell, erases_left, page_of, page_at, flash, flash_buffer, flash_bounded, FlashLaws};
 
 use crate::buffer::Buffer;
-use crate::parts::padded;
+use crate::parts::{padded, whole_parts};
 use cells::fault::StoreFault;
-use cells::store::{MOST_CELLS, Store, admit};
+use cells::store::{Store, admit};
 
 /// The bytes of a page.
 pub const FLASH_PAGE: usize = 256;
@@ -26,12 +26,25 @@ type Page = [u8; FLASH_PAGE];
 fn erases_left(page: &Page) -> u32
     ensures { result ≡ erases_left page.now }
 {
-    u32::from_le_bytes([
-        page[ERASES_LEFT],
-        page[ERASES_LEFT + 1],
-        page[ERASES_LEFT + 2],
-        page[ERASES_LEFT + 3],
-    ])
+    let [.., a, b, c, d] = page;
+    u32::from_le_bytes([*a, *b, *c, *d])
+}
+
+// The whole pages of a buffer.
+fn pages(buf: &[u8]) -> &[Page]
+    ensures pages { result.now ≡ first_chunks page_bytes (length buf.now / page_bytes) buf.now }
+    ensures count { length result.now ≡ length buf.now / page_bytes }
+{
+    buf.as_chunks().0
+}
+
+// The page of the cell `p`.
+#[tactic(auto, using(crate::proofs::Partly::chunk_at))]
+fn page(buf: &[u8], p: usize) -> &Page
+    requires there { p < whole_parts (length buf.now) page_bytes }
+    ensures { result.now ≡ page_at buf.now p }
+{
+    &pages(buf)[p]
 }
 
 // What is left of so many erases once one is spent on the cell `p`.
@@ -50,6 +63,22 @@ fn page_of(bytes: &[u8], left: u32) -> Page
     page[..FLASH_CELL].copy_from_slice(&padded::<FLASH_CELL>(bytes));
     page[ERASES_LEFT..].copy_from_slice(&left.to_le_bytes());
     page
+}
+
+/// How many cells a buffer of `len` bytes has as flash: its whole pages, at most 512.
+pub fn flash_count(len: usize) -> usize
+    ensures { result ≡ whole_parts len page_bytes }
+{
+    whole_parts(len, FLASH_PAGE)
+}
+
+/// Reads the cell `p` of a buffer of pages, as flash over it would.
+pub fn read_flash(buf: &[u8], p: usize, out: &mut [u8]) -> Result<(), StoreFault>
+    ensures { ReadBy (flash buf.now) p out.old result out.new }
+{
+    admit(flash_count(buf.len()), FLASH_CELL, p, out.len())?;
+    out.copy_from_slice(&page(buf, p)[..FLASH_CELL][..out.len()]);
+    Ok(())
 }
 
 /// What an accepted write makes of a buffer of pages: the cell is the bytes and then zeros, its filler 0xFF and its erases left one less; every other
@@ -84,23 +113,7 @@ impl<B: Buffer> Flash<B> {
         buf
     }
 
-    fn pages(&self) -> &[Page]
-        ensures pages { result.now ≡ first_chunks page_bytes (length (B.bytes self.now.buf) / page_bytes) (B.bytes self.now.buf) }
-        ensures count { length result.now ≡ length (B.bytes self.now.buf) / page_bytes }
-    {
-        self.buf.bytes().as_chunks().0
-    }
-
-    // The page of the cell `p`.
-    #[tactic(auto, using(crate::proofs::Partly::chunk_at))]
-    fn page(&self, p: usize) -> &Page
-        requires there { p < whole_parts (length (B.bytes self.now.buf)) page_bytes }
-        ensures { result.now ≡ page_at (B.bytes self.now.buf) p }
-    {
-        &self.pages()[p]
-    }
-
-    // Makes the page of the cell `p` anew, if it has an erase left.
+    // Makes the page of the cell `p` anew, if it has an erase left. Kept apart from `write`, whose exit so needs no answer written out.
     fn renew(&mut self, p: usize, bytes: &[u8]) -> Result<(), StoreFault>
         requires there { p < whole_parts (length (B.bytes self.old.buf)) page_bytes }
         requires short { length bytes.now ≤ flash_cell }
@@ -108,7 +121,7 @@ impl<B: Buffer> Flash<B> {
         ensures buffer { B.bytes self.new.buf ≡ (if is_ok result then flash_buffer (B.bytes self.old.buf) p bytes.now else B.bytes self.old.buf) }
         ensures holder { B.name self.new.buf ≡ B.name self.old.buf }
     {
-        let left = spend(erases_left(self.page(p)), p)?;
+        let left = spend(erases_left(page(self.buf.bytes(), p)), p)?;
         self.buf.put(p * FLASH_PAGE, &page_of(bytes, left));
         Ok(())
     }
@@ -120,7 +133,7 @@ impl<B: Buffer> Store for Flash<B> {
     ghost bounds = { λ s. flash_bounded (B.bytes s.buf) };
 
     fn count(&self) -> usize {
-        self.pages().len().min(MOST_CELLS)
+        flash_count(self.buf.bytes().len())
     }
 
     fn size(&self) -> usize {
@@ -128,9 +141,7 @@ impl<B: Buffer> Store for Flash<B> {
     }
 
     fn read(&self, p: usize, out: &mut [u8]) -> Result<(), StoreFault> {
-        admit(self.count(), FLASH_CELL, p, out.len())?;
-        out.copy_from_slice(&self.page(p)[..FLASH_CELL][..out.len()]);
-        Ok(())
+        read_flash(self.buf.bytes(), p, out)
     }
 
     // Every byte of the buffer: an accepted write makes its page anew, and changes no other byte.

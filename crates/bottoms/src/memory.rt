@@ -1,6 +1,6 @@
 // Memory: cells that lie one after another in a buffer, and always take a write.
 ghost use Rattle.std.specs.Prelude.{◌≡◌, ◌<◌, ◌≤◌, length, is_ok, if◌then◌else◌};
-ghost use Rattle.cells.specs.Calls.{WroteBy};
+ghost use Rattle.cells.specs.Calls.{ReadBy, WroteBy};
 ghost use Rattle.bottoms.specs.Parts.{whole_parts};
 ghost use Rattle.bottoms.specs.Memories.{cell_size, memory, memory_buffer, memory_bounded};
 
@@ -8,6 +8,30 @@ use crate::buffer::Buffer;
 use crate::parts::{padded, part, whole_parts};
 use cells::fault::StoreFault;
 use cells::store::{LARGEST_CELL, Store, admit};
+
+/// The wished size of a cell, brought into 1 to 239.
+pub fn memory_size(wished: usize) -> usize
+    ensures { result ≡ cell_size wished }
+{
+    wished.clamp(1, LARGEST_CELL)
+}
+
+/// How many cells a buffer of `len` bytes has as memory: as many as fit, at most 512.
+pub fn memory_count(len: usize, wished: usize) -> usize
+    ensures { result ≡ whole_parts len (cell_size wished) }
+{
+    whole_parts(len, memory_size(wished))
+}
+
+/// Reads the cell `p` of a buffer, as memory over it with cells of the wished size would.
+pub fn read_memory(buf: &[u8], wished: usize, p: usize, out: &mut [u8]) -> Result<(), StoreFault>
+    ensures { ReadBy (memory (cell_size wished) buf.now) p out.old result out.new }
+{
+    let size = memory_size(wished);
+    admit(memory_count(buf.len(), wished), size, p, out.len())?;
+    out.copy_from_slice(&part(buf, size, p)[..out.len()]);
+    Ok(())
+}
 
 /// Memory over a buffer. What the buffer holds beyond its last cell is never touched.
 #[derive(Drop)]
@@ -53,18 +77,15 @@ impl<B: Buffer> Store for Memory<B> {
     ghost bounds = { λ s. memory_bounded s.wished (B.bytes s.buf) };
 
     fn count(&self) -> usize {
-        whole_parts(self.buf.bytes().len(), self.size())
+        memory_count(self.buf.bytes().len(), self.wished)
     }
 
     fn size(&self) -> usize {
-        self.wished.min(LARGEST_CELL).max(1)
+        memory_size(self.wished)
     }
 
     fn read(&self, p: usize, out: &mut [u8]) -> Result<(), StoreFault> {
-        let size = self.size();
-        admit(self.count(), size, p, out.len())?;
-        out.copy_from_slice(&part(self.buf.bytes(), size, p)[..out.len()]);
-        Ok(())
+        read_memory(self.buf.bytes(), self.wished, p, out)
     }
 
     // Every byte of the buffer: an accepted write changes those of its cell and no other.

@@ -38,6 +38,7 @@ pub trait Store {
 }
 
 /// Refuses a call for `n` bytes of the cell `p` for its place, and then for its length.
+// Kept: count and size as numbers, since a slice that is read as a bottom's has no store to ask.
 pub fn admit(count: usize, size: usize, p: usize, n: usize) -> Result<(), StoreFault>
     ensures { result ≡ admitted count size p n }
 {

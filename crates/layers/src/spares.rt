@@ -19,7 +19,7 @@ pub const MOST_SPARES: usize = 16;
 pub struct Spares<S> {
     below: S,
     held: usize,
-    // Kept: an array, since no heap is used here.
+    // Kept: a small table held by value, and `held` as what was asked for.
     table: [Spare; MOST_SPARES],
 }
 
@@ -67,7 +67,8 @@ impl<S: Store> Spares<S> {
         }
     }
 
-    // Writes the bytes to the cell `p` at its place, or else to a spare that becomes its place.
+    // Writes the bytes to the cell `p` at its place, or else to a spare that becomes its place. Kept apart from `write`, whose exit so needs no answer
+    // written out.
     fn write_cell(&mut self, p: usize, bytes: &[u8]) -> Result<(), StoreFault>
         requires here { p < left_in S.Store.meaning self.old }
         requires short { length bytes.now ≤ (S.Store.meaning self.old.below).size }

@@ -10,7 +10,7 @@ pub returns : goal.returns
 returns g c =
     let buf = g.B.Buffer.bytes c.args.self.now.buf in
     let p = c.args.p in
-    let is : c.erases_left.result ≡ erases_left (page_at buf p) = c.erases_left.ensures ∙ ap erases_left c.page.ensures in
+    let is : c.erases_left.result ≡ erases_left (page_at buf p) = c.erases_left.ensures ∙ ap erases_left (c.page.ensures ∙ ap (λ b. page_at b p) c.bytes.ensures) in
     let spends = subst (λ (e : ℕ). ◌≡◌ {A = Result ℕ StoreFault} (Ok c.in_ok-left.left) (cond (ltb 0 e) (Ok (e - 1)) (Err (Worn p)))) is c.in_ok-left.ensures in
     let same = c.put.ensures.bytes ∙ ap (put buf (p * 256)) c.page_of.ensures ∙ page_put buf c.args.bytes.now p c.in_ok-left.left c.requires.there c.requires.short spends in
     record {
