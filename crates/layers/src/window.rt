@@ -60,6 +60,7 @@ impl<S: Store> Store for Window<S> {
     }
 
     // Beside what any store says of a write: what it makes of the store below, and that the window stays where it is.
+    // Kept: the test of the place, here as in `read`, since the proof of a write does not close over a function that has it.
     fn write(&mut self, p: usize, bytes: &[u8]) -> Result<(), StoreFault>
         ensures store { WroteBy (window_of S.Store.meaning self.old) p bytes.now result (window_of S.Store.meaning self.new) }
         ensures below { Becomes (S.Store.meaning self.old.below) (self.old.from + p) bytes.now result (S.Store.meaning self.new.below) }

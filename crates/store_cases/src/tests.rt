@@ -1,4 +1,9 @@
 // The expected bytes are worked out by hand.
+ghost use Rattle.std.specs.Prelude.{◌≡◌, is_ok, if◌then◌else◌};
+ghost use Rattle.cells.specs.Calls.{WroteBy};
+ghost use Rattle.bottoms.specs.Memories.{cell_size, memory, memory_buffer};
+ghost use Rattle.bottoms.specs.Pages.{flash, flash_buffer};
+
 use bottoms::flash::{ERASES_LEFT, FLASH_PAGE, Flash};
 use bottoms::memory::Memory;
 use cells::fault::StoreFault;
@@ -56,7 +61,7 @@ fn parts(rt: &impl Abort, buf: &[u8], parts: &[Part<'_>]) {
 #[test]
 fn sizes_of_memory(rt: HostRuntime) {
     let mut buf = [7; 600];
-    let bytes = Memory::new(&mut buf, 0);
+    let bytes = Memory::new(&mut buf[..], 0);
     assert_eq!(rt; (bytes.count(), bytes.size()), (512, 1));
     let large = Memory::new(bytes.end(), 1000);
     assert_eq!(rt; (large.count(), large.size()), (2, 239));
@@ -78,11 +83,8 @@ fn sizes_of_memory(rt: HostRuntime) {
 #[test]
 fn one_page_of_flash(rt: HostRuntime) {
     let mut buf = [0x11; 300];
-    buf[252] = 1;
-    buf[253] = 1;
-    buf[254] = 0;
-    buf[255] = 0;
-    let mut flash = Flash::new(&mut buf);
+    buf[ERASES_LEFT..FLASH_PAGE].copy_from_slice(&257u32.to_le_bytes());
+    let mut flash = Flash::new(&mut buf[..]);
     assert_eq!(rt; (flash.count(), flash.size()), (1, 239));
     assert_eq!(rt; flash.write(0, &[1, 2, 3]), Ok(()));
     assert_eq!(rt; flash.write(0, &[]), Ok(()));
@@ -218,6 +220,43 @@ fn window_past_the_end(rt: HostRuntime) {
     // Sixteen spares at most: of twenty cells four are left.
     let mut small = [0; 20];
     assert_eq!(rt; Spares::new(Memory::new(&mut small, 1), 17).count(), 4);
+}
+
+// The lender of a slice learns what a write made of it, once the bottom is let go.
+fn write_memory(buf: &mut [u8], wished: usize, p: usize, bytes: &[u8]) -> Result<(), StoreFault>
+    ensures store { WroteBy (memory (cell_size wished) buf.old) p bytes.now result (memory (cell_size wished) buf.new) }
+    ensures buffer { buf.new ≡ (if is_ok result then memory_buffer (cell_size wished) buf.old p bytes.now else buf.old) }
+{
+    Memory::new(buf, wished).write(p, bytes)
+}
+
+fn write_flash(buf: &mut [u8], p: usize, bytes: &[u8]) -> Result<(), StoreFault>
+    ensures store { WroteBy (flash buf.old) p bytes.now result (flash buf.new) }
+    ensures buffer { buf.new ≡ (if is_ok result then flash_buffer buf.old p bytes.now else buf.old) }
+{
+    Flash::new(buf).write(p, bytes)
+}
+
+#[test]
+fn lent_slices(rt: HostRuntime) {
+    let mut buf = [7; 9];
+    assert_eq!(rt; write_memory(&mut buf, 4, 1, &[1, 2]), Ok(()));
+    assert_eq!(rt;
+        write_memory(&mut buf, 4, 2, &[3]),
+        Err(StoreFault::Place(2))
+    );
+    assert_eq!(rt; buf, [7, 7, 7, 7, 1, 2, 0, 0, 7]);
+    let mut pages = [1; 512];
+    assert_eq!(rt; write_flash(&mut pages, 1, &[8, 9]), Ok(()));
+    parts(
+        &rt,
+        &pages,
+        &[
+            (254, &[1, 1, 8, 9, 0]),
+            (494, &[0, 0xff]),
+            (507, &[0xff, 0, 1, 1, 1]),
+        ],
+    );
 }
 
 #[test]
