@@ -5,6 +5,20 @@ use cutting::layout::{Layout, layout_of};
 use rules::line_rule::LineRule;
 use rules::places::Places;
 use rules::published::Published;
+use std::fmt;
+
+// Bytes in hexadecimal. Written straight out, since a string for each line could end the run halfway for want of memory.
+#[derive(Drop)]
+struct Hex<'a>(&'a [u8]);
+
+impl<'a> fmt::Display for Hex<'a> {
+    fn fmt<W: fmt::Write>(&self, f: &mut fmt::Formatter<W>) -> fmt::Result {
+        for b in self.0 {
+            write!(f, "{b:02x}")?;
+        }
+        Ok(())
+    }
+}
 
 /// A block, how it is cut, and room for one fragment and its row.
 #[derive(Drop)]
@@ -17,7 +31,7 @@ pub struct Cut {
 
 impl Cut {
     /// Cuts the block into fragments of `size` bytes, or says why it cannot be.
-    pub fn plan(rt: &HostRuntime, block: Vec<u8>, size: u8) -> Result<Cut, Fault> {
+    pub(crate) fn plan(rt: &HostRuntime, block: Vec<u8>, size: u8) -> Result<Cut, Fault> {
         let heap = rt.alloc();
         let length = block.len();
         let layout = u32::try_from(length)
@@ -28,6 +42,8 @@ impl Cut {
         if !Published.serves(Published::ALGO, m) {
             return Err(Fault::Small { fragments: m, size });
         }
+        let row = vec![in heap; false; usize::from(m)]?;
+        let fragment = vec![in heap; 0; usize::from(size)]?;
         let padding = layout.padding;
         println!(rt;
             "cut: {m} fragments of {size} bytes, the last with {padding} bytes of filler"
@@ -35,18 +51,18 @@ impl Cut {
         Ok(Cut {
             block,
             layout,
-            row: vec![in heap; false; usize::from(m)]?,
-            fragment: vec![in heap; 0; usize::from(size)]?,
+            row,
+            fragment,
         })
     }
 
     /// How many fragments the block has.
-    pub fn fragments(&self) -> u16 {
+    pub(crate) fn fragments(&self) -> u16 {
         self.layout.fragments
     }
 
     /// Prints fragment `n`.
-    pub fn print(&mut self, rt: &HostRuntime, n: u16) -> Result<(), Fault> {
+    pub(crate) fn print(&mut self, rt: &HostRuntime, n: u16) -> Result<(), Fault> {
         let m = self.fragments();
         let size = self.fragment.len();
         Published.fill(Published::ALGO, m, n, self.row.as_mut_slice())?;
@@ -56,7 +72,7 @@ impl Cut {
             self.row.as_slice(),
             self.fragment.as_mut_slice(),
         )?;
-        let hex = hex::encode(rt.alloc(), self.fragment.as_slice())?;
+        let hex = Hex(self.fragment.as_slice());
         if n <= m {
             println!(rt; "{n:>5}  {hex}")?;
         } else {

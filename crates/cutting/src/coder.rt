@@ -28,6 +28,7 @@ fn sum_marked(part: &mut [u8], block: &[u8], marks: &[bool])
 
 /// Writes the coded fragment under the row `marks` of the block, cut into as many fragments of `size` bytes as the row has marks and
 /// filled up with zeros (bytes of the block beyond them do not count), to the first `size` bytes of `out`. The rest of `out` stays; a shorter buffer is refused and left.
+// Kept: the size beside the buffer, since a shorter buffer is refused, and the rest of a longer one stays.
 pub fn code_into(block: &[u8], size: usize, marks: &[bool], out: &mut [u8]) -> Result<(), Short>
     ensures answer { result ≡ (if nat_le size (length out.old) then Ok tt else Err (record {})) }
     ensures bytes { out.new ≡ (if nat_le size (length out.old) then coded size marks.now (cut (length marks.now) size block.now) ++ drop size out.old else out.old) }
