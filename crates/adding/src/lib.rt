@@ -2,7 +2,7 @@
 #![tactic(auto)]
 
 ghost use Rattle.std.specs.Prelude.{◌≡◌, min, false, length, bit_xor};
-ghost use Rattle.adding.specs.Sums.{differ, added, sum as total};
+ghost use Rattle.adding.specs.Sums.{Laws, differ, added, sum as total};
 ghost use Rattle.adding.specs.Laws.{mark_laws, byte_laws};
 
 /// A kind of element whose adding is associative and commutative, has a zero, and gives zero for an element added to itself.
@@ -19,13 +19,8 @@ pub trait Element: Copy {
     fn plus(self, other: Self) -> Self
         ensures { result ≡ sum self other };
 
-    ghost assoc: { (x y z : Self) → sum (sum x y) z ≡ sum x (sum y z) };
-
-    ghost comm: { (x y : Self) → sum x y ≡ sum y x };
-
-    ghost neutral: { (x : Self) → sum x zero ≡ x };
-
-    ghost cancels: { (x : Self) → sum x x ≡ zero };
+    // Adding is associative and commutative, the zero changes nothing, and an element added to itself gives the zero.
+    ghost laws: { Laws zero sum };
 }
 
 /// Marks: two are added to yes where they differ.
@@ -34,13 +29,7 @@ impl Element for bool {
 
     ghost sum = { differ };
 
-    ghost assoc = { mark_laws.assoc };
-
-    ghost comm = { mark_laws.comm };
-
-    ghost neutral = { mark_laws.neutral };
-
-    ghost cancels = { mark_laws.cancels };
+    ghost laws = { mark_laws };
 
     fn none() -> bool {
         false
@@ -57,13 +46,7 @@ impl Element for u8 {
 
     ghost sum = { bit_xor };
 
-    ghost assoc = { byte_laws.assoc };
-
-    ghost comm = { byte_laws.comm };
-
-    ghost neutral = { byte_laws.neutral };
-
-    ghost cancels = { byte_laws.cancels };
+    ghost laws = { byte_laws };
 
     fn none() -> u8 {
         0

@@ -1,5 +1,5 @@
 use Rattle.std.proofs.Common.{◌≡◌, add-one, ◌∙◌, arith}
-use Rattle.adding.specs.Sums.{Laws, sum}
+use Rattle.adding.specs.Sums.{sum}
 use Rattle.adding.proofs.Turns.{begun_more, begun_all, sum_back}
 use Rattle.adding.proofs.add_each.Goals as goal
 
@@ -13,9 +13,6 @@ loop-i-preserved g c =
 pub returns : goal.returns
 returns g c =
     let element = g.E.Element in
-    let met = g.met.E.Element in
-    let laws : Laws element.zero element.sum =
-    record { assoc = met.assoc; comm = met.comm; neutral = met.neutral; cancels = met.cancels } in
     let whole : c.loop-i.a ≡ sum element.sum c.args.a.now c.args.b.now = c.loop-i.invariant ∙ begun_all element.sum c.args.a.now c.args.b.now c.loop-i.i (omega arith) c.requires in
-    let back = sum_back laws c.args.a.now c.args.b.now c.requires in
+    let back = sum_back g.met.E.Element.laws c.args.a.now c.args.b.now c.requires in
     record { whole = whole; back = rw whole back }
