@@ -1,5 +1,5 @@
 // The line rules by their names.
-ghost use Rattle.bench.specs.Chosen.{chosen_serves, chosen_row, chosen_algorithms, chosen_unserved, chosen_beyond, chosen_whole};
+ghost use Rattle.bench.specs.Chosen.{chosen_serves, chosen_row, chosen_laws};
 
 use crate::script::Wrong;
 use rules::line_rule::{LineRule, RowFault};
@@ -51,13 +51,7 @@ impl LineRule for RuleName {
 
     ghost row = { chosen_row };
 
-    ghost algorithms = { chosen_algorithms };
-
-    ghost unserved = { chosen_unserved };
-
-    ghost beyond = { chosen_beyond };
-
-    ghost whole = { chosen_whole };
+    ghost laws = { chosen_laws };
 
     fn serves(&self, algo: u8, m: u16) -> bool {
         match self {

@@ -1,12 +1,23 @@
 -- The laws of a line rule, kept by `Published` and by `Repeat`. Assumes nothing.
-use Rattle.std.specs.Prelude.{◌≡◌, ℕ, zero, suc, ◌-◌, ◌/◌, ◌%◌, ◌<◌, Bool, true, false, List, length, replicate, Some, None, nat_le, slice_set, refl}
+use Rattle.std.specs.Prelude.{◌≡◌, ℕ, zero, suc, ◌-◌, ◌/◌, ◌%◌, ◌<◌, Bool, true, false, List, length, replicate, Option, Some, None, nat_le, slice_set, refl}
 use Rattle.std.proofs.Common.{◌∙◌, rules}
 use Rattle.std.proofs.lemmas.List.{length-set, length-replicate}
 use Rattle.std.proofs.lemmas.Bool.{cond_both}
-use Rattle.coding.specs.Rows.{Row}
+use Rattle.coding.specs.Rows.{Row, IsRow}
 use Rattle.rules.specs.Filling.{last_number, row_if, numbered, single}
 use Rattle.rules.specs.Draws.{width, drawn, draws, seed, published_serves, published_row, published_marks}
 use Rattle.rules.specs.Repeats.{repeat_serves, repeat_row}
+
+-- the laws of a line rule that serves such pairs of FragAlgo and M, and has such rows for the pairs and each number
+pub record RuleLaws (served : ℕ → ℕ → Bool) (row : ℕ → ℕ → ℕ → Option Row) : Type 0 where
+  -- FragAlgo has three bits
+  pub algorithms : (a m : ℕ) → 7 < a → served a m ≡ false
+  -- a pair that is not served has no row
+  pub unserved : (a m n : ℕ) → served a m ≡ false → row a m n ≡ None
+  -- nor has a number above the last
+  pub beyond : (a m n : ℕ) → last_number < n → row a m n ≡ None
+  -- a row for M has M marks
+  pub whole : (a m n : ℕ) (marks : Row) → row a m n ≡ Some marks → IsRow m marks
 
 -- ## How long a row is
 
@@ -36,26 +47,18 @@ pub row_if_whole : (t : Bool) (row : Row) (m : ℕ) → length row ≡ m → (ma
 row_if_whole true row m h marks e = cc
 row_if_whole false row m h marks e = cc
 
-pub published_algorithms : (a m : ℕ) → 7 < a → published_serves a m ≡ false
-published_algorithms = search rules
+-- a rule whose rows are numbered keeps the laws where it serves no FragAlgo above 7, and its rows for M have M marks
+pub numbered_laws : (serves : ℕ → ℕ → Bool) (marks : ℕ → ℕ → Row) → ((a m : ℕ) → 7 < a → serves a m ≡ false) → ((m n : ℕ) → IsRow m (marks m n))
+    → RuleLaws serves (λ a m n. row_if (numbered (serves a m) n) (marks m n))
+numbered_laws serves marks none_above rows = record {
+  algorithms = none_above;
+  unserved = λ a m n. unserved (serves a m) n (marks m n);
+  beyond = λ a m n. beyond (serves a m) n (marks m n);
+  whole = λ a m n. row_if_whole (numbered (serves a m) n) (marks m n) m (rows m n);
+}
 
-pub published_unserved : (a m n : ℕ) → published_serves a m ≡ false → published_row a m n ≡ None
-published_unserved a m n = unserved (published_serves a m) n (published_marks m n)
+pub published_laws : RuleLaws published_serves published_row
+published_laws = numbered_laws published_serves published_marks (search rules) length_published
 
-pub published_beyond : (a m n : ℕ) → last_number < n → published_row a m n ≡ None
-published_beyond a m n = beyond (published_serves a m) n (published_marks m n)
-
-pub published_whole : (a m n : ℕ) (marks : Row) → published_row a m n ≡ Some marks → length marks ≡ m
-published_whole a m n = row_if_whole (numbered (published_serves a m) n) (published_marks m n) m (length_published m n)
-
-pub repeat_algorithms : (a m : ℕ) → 7 < a → repeat_serves a m ≡ false
-repeat_algorithms = search rules
-
-pub repeat_unserved : (a m n : ℕ) → repeat_serves a m ≡ false → repeat_row a m n ≡ None
-repeat_unserved a m n = unserved (repeat_serves a m) n (single m ((n - 1) % m))
-
-pub repeat_beyond : (a m n : ℕ) → last_number < n → repeat_row a m n ≡ None
-repeat_beyond a m n = beyond (repeat_serves a m) n (single m ((n - 1) % m))
-
-pub repeat_whole : (a m n : ℕ) (marks : Row) → repeat_row a m n ≡ Some marks → length marks ≡ m
-repeat_whole a m n = row_if_whole (numbered (repeat_serves a m) n) (single m ((n - 1) % m)) m (length-single m ((n - 1) % m))
+pub repeat_laws : RuleLaws repeat_serves repeat_row
+repeat_laws = numbered_laws repeat_serves (λ m n. single m ((n - 1) % m)) (search rules) (λ m n. length-single m ((n - 1) % m))

@@ -1,7 +1,8 @@
 // What a line rule means, and what it answers.
-ghost use Rattle.std.specs.Prelude.{◌≡◌, ℕ, ◌<◌, Bool, false, length, Some, None, Option, nat_le};
-ghost use Rattle.coding.specs.Rows.{Row, IsRow};
-ghost use Rattle.rules.specs.Filling.{last_number, answered, filled, length_if, numbered, fault_text};
+ghost use Rattle.std.specs.Prelude.{◌≡◌, ℕ, Bool, length, Some, None, Option, nat_le};
+ghost use Rattle.coding.specs.Rows.{Row};
+ghost use Rattle.rules.specs.Filling.{answered, filled, length_if, numbered, fault_text};
+ghost use Rattle.rules.specs.RuleLaws.{RuleLaws};
 
 use std::fmt;
 
@@ -60,11 +61,6 @@ pub trait LineRule {
         ensures answer { result ≡ answered (nat_le m (length marks.old)) (row self.now algo m n) }
         ensures list { marks.new ≡ filled (nat_le m (length marks.old)) (row self.now algo m n) marks.old };
 
-    ghost algorithms: { (s : Self) (a m : ℕ) → 7 < a → served s a m ≡ false };
-
-    ghost unserved: { (s : Self) (a m n : ℕ) → served s a m ≡ false → row s a m n ≡ None };
-
-    ghost beyond: { (s : Self) (a m n : ℕ) → last_number < n → row s a m n ≡ None };
-
-    ghost whole: { (s : Self) (a m n : ℕ) (marks : Row) → row s a m n ≡ Some marks → IsRow m marks };
+    // It serves no FragAlgo above 7, has a row for served pairs and numbers to the last only, and one for M has M marks.
+    ghost laws: { (s : Self) → RuleLaws (served s) (row s) };
 }

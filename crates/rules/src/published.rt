@@ -2,7 +2,7 @@
 ghost use Rattle.std.specs.Prelude.{◌≡◌};
 ghost use Rattle.rules.specs.Draws.{published_serves, published_row};
 ghost use Rattle.rules.specs.Bound.{Bounded};
-ghost use Rattle.rules.specs.RuleLaws.{published_algorithms, published_unserved, published_beyond, published_whole};
+ghost use Rattle.rules.specs.RuleLaws.{published_laws};
 
 use crate::drawing::draw;
 use crate::line_rule::{LineRule, RowFault, row_length};
@@ -23,13 +23,7 @@ impl LineRule for Published {
 
     ghost row = { λ _. published_row };
 
-    ghost algorithms = { λ _. published_algorithms };
-
-    ghost unserved = { λ _. published_unserved };
-
-    ghost beyond = { λ _. published_beyond };
-
-    ghost whole = { λ _. published_whole };
+    ghost laws = { λ _. published_laws };
 
     fn serves(&self, algo: u8, m: u16) -> bool {
         algo == Self::ALGO && (4..=MOST_FRAGMENTS).contains(&m)

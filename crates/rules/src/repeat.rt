@@ -1,7 +1,7 @@
 // The rule that sends one fragment after another, over and over.
 ghost use Rattle.std.specs.Prelude.{◌≡◌, ◌-◌, ◌%◌, ◌≤◌};
 ghost use Rattle.rules.specs.Repeats.{repeat_serves, repeat_row};
-ghost use Rattle.rules.specs.RuleLaws.{repeat_algorithms, repeat_unserved, repeat_beyond, repeat_whole};
+ghost use Rattle.rules.specs.RuleLaws.{repeat_laws};
 
 use crate::line_rule::{LineRule, RowFault, row_length};
 use crate::marks::only;
@@ -29,13 +29,7 @@ impl LineRule for Repeat {
 
     ghost row = { λ _. repeat_row };
 
-    ghost algorithms = { λ _. repeat_algorithms };
-
-    ghost unserved = { λ _. repeat_unserved };
-
-    ghost beyond = { λ _. repeat_beyond };
-
-    ghost whole = { λ _. repeat_whole };
+    ghost laws = { λ _. repeat_laws };
 
     fn serves(&self, algo: u8, m: u16) -> bool {
         algo == Self::ALGO && (1..=MOST_FRAGMENTS).contains(&m)
