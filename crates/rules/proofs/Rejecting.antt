@@ -5,6 +5,7 @@
 -- m + 1, b is 0 and x is odd. So bit 5 of x is set too: x is above 32, and the value after it is half of it. From below 2^24 on, x can be halved
 -- so 19 times.
 use Rattle.std.specs.Prelude.{◌≡◌, ℕ, zero, suc, ◌+◌, ◌*◌, ◌/◌, ◌%◌, ◌^◌, ◌<◌, ◌≤◌, Bool, true, false, cond, not, ◌&&◌, ◌||◌, List, [], ◌∷◌, ◌==◌, ◌≢◌, bit_xor, nat_lt, refl}
+use Rattle.std.specs.List.{list_all}
 use Rattle.std.proofs.Common.{sym, ap, ◌∙◌, ⊎_elim, arith, mul_left_comm}
 use Rattle.std.proofs.Math.Nat.{div-add-mod, add-mul-mod_self_left}
 use Rattle.std.proofs.lemmas.Nat.{mod_below}
@@ -23,14 +24,10 @@ agree m l b = (m + l) % (m + 1) == 8388608 * b % (m + 1)
 abbrev apart : ℕ → Bool
 apart m = nat_lt m 4 || (not (agree m 0 0) && (not (agree m 0 1) && not (agree m 1 1)))
 
-abbrev each : (ℕ → Bool) → List ℕ → Bool
-each test [] = true
-each test (p ∷ ps) = test p && each test ps
-
-at_one : (test : ℕ → Bool) (m : ℕ) (ps : List ℕ) → one_of m ps ≡ true → each test ps ≡ true → test m ≡ true
+at_one : (test : ℕ → Bool) (m : ℕ) (ps : List ℕ) → one_of m ps ≡ true → list_all test ps ≡ true → test m ≡ true
 at_one test m [] t all = absurd (both_ways false refl t)
 at_one test m (p ∷ ps) t all =
-    let parts = and_parts (test p) (each test ps) all in
+    let parts = and_parts (test p) (list_all test ps) all in
     ⊎_elim (λ e. ap test (eqb-true m p e) ∙ parts.0) (λ e. at_one test m ps e parts.1) (or_cases (m == p) (one_of m ps) t)
 
 -- computed over the list of powers

@@ -1,5 +1,6 @@
 -- The rule `Published`: a shift register draws the marks. Assumes nothing.
-use Rattle.std.specs.Prelude.{ℕ, zero, suc, ◌+◌, ◌-◌, ◌*◌, ◌/◌, ◌%◌, ◌^◌, Bool, true, false, cond, ◌&&◌, ◌||◌, List, [], ◌∷◌, replicate, Option, ◌==◌, bit_xor, nat_le, nat_lt, slice_set}
+use Rattle.std.specs.Prelude.{ℕ, zero, suc, ◌+◌, ◌-◌, ◌*◌, ◌/◌, ◌%◌, ◌^◌, Bool, true, false, cond, ◌&&◌, List, [], ◌∷◌, replicate, Option, ◌==◌, bit_xor, nat_le, nat_lt, slice_set}
+use Rattle.std.specs.List.{list_any}
 use Rattle.coding.specs.Rows.{Row}
 use Rattle.coding.specs.Blocks.{most_fragments}
 use Rattle.rules.specs.Filling.{row_if, numbered, single}
@@ -12,9 +13,9 @@ bit k x = x / 2 ^ k % 2
 unfoldable pub step : ℕ → ℕ
 step x = x / 2 + 2 ^ 22 * bit_xor (bit 0 x) (bit 5 x)
 
+-- whether a number is one of a list
 abbrev pub one_of : ℕ → List ℕ → Bool
-one_of m [] = false
-one_of m (p ∷ ps) = m == p || one_of m ps
+one_of m ps = list_any (λ p. m == p) ps
 
 -- the powers of two up to 256
 abbrev pub powers : List ℕ
