@@ -38,7 +38,7 @@ mod tests {
     fn printed_rows(rt: HostRuntime) -> Result<(), Fail> {
         for (y, row) in PRINTED {
             let mut marks = [false; 25];
-            Published.fill(0, 25, 25 + y, &mut marks)?;
+            Published.fill(Published::ALGO, 25, 25 + y, &mut marks)?;
             for (mark, bit) in marks.iter().zip(row.iter()) {
                 assert_eq!(rt; *mark, *bit == b'1');
             }
@@ -49,20 +49,29 @@ mod tests {
     #[test]
     fn short_before_none(rt: HostRuntime) {
         let mut marks = [true; 4];
-        assert_eq!(rt; Published.fill(0, 5, 12, &mut marks), Err(RowFault::Short));
+        assert_eq!(rt;
+            Published.fill(Published::ALGO, 5, 12, &mut marks),
+            Err(RowFault::Short)
+        );
         assert_eq!(rt; Repeat.fill(0, 5, 1, &mut marks), Err(RowFault::Short));
-        assert_eq!(rt; Published.fill(0, 4, 0, &mut marks), Err(RowFault::NoRow));
+        assert_eq!(rt;
+            Published.fill(Published::ALGO, 4, 0, &mut marks),
+            Err(RowFault::NoRow)
+        );
         assert_eq!(rt; Repeat.fill(0, 4, 1, &mut marks), Err(RowFault::NoRow));
-        assert_eq!(rt; Repeat.fill(7, 4, 16384, &mut marks), Err(RowFault::NoRow));
+        assert_eq!(rt;
+            Repeat.fill(Repeat::ALGO, 4, 16384, &mut marks),
+            Err(RowFault::NoRow)
+        );
         assert_eq!(rt; marks, [true; 4]);
     }
 
     #[test]
     fn rest_stays(rt: HostRuntime) -> Result<(), Fail> {
         let mut marks = [true; 6];
-        Published.fill(0, 5, 12, &mut marks)?;
+        Published.fill(Published::ALGO, 5, 12, &mut marks)?;
         assert_eq!(rt; marks, [false, false, false, true, false, true]);
-        Repeat.fill(7, 3, 5, &mut marks)?;
+        Repeat.fill(Repeat::ALGO, 3, 5, &mut marks)?;
         assert_eq!(rt; marks, [false, true, false, true, false, true]);
         Ok(())
     }
