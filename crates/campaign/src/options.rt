@@ -2,6 +2,7 @@
 use crate::fault::Fault;
 use coding::LARGEST_FRAGMENT;
 use std::env;
+use std::str::FromStr;
 
 /// The file of the table, the size of a fragment, and how many fragments to send beyond the block's own.
 #[derive(Drop)]
@@ -16,19 +17,20 @@ const SIZE: u8 = 48;
 
 const SPARES: u16 = 8;
 
+// The next argument, read as its type, or the default where there is none.
+fn next_or<T: FromStr<Err: Drop> + Drop>(args: &mut env::Args, default: T) -> Result<T, Fault> {
+    args.next()
+        .map_or(Ok(default), |text| text.as_str().parse())
+        .map_err(|_| Fault::Usage)
+}
+
 /// The options, or how to give them.
 pub(crate) fn read_options(rt: &HostRuntime) -> Result<Options, Fault> {
     let mut args = env::args(rt)?;
     let _ = args.next();
     let table = args.next().ok_or(Fault::Usage)?;
-    let size = args
-        .next()
-        .map_or(Ok(SIZE), |text| text.as_str().parse::<u8>())
-        .map_err(|_| Fault::Usage)?;
-    let spares = args
-        .next()
-        .map_or(Ok(SPARES), |text| text.as_str().parse::<u16>())
-        .map_err(|_| Fault::Usage)?;
+    let size = next_or(&mut args, SIZE)?;
+    let spares = next_or(&mut args, SPARES)?;
     if args.next().is_some() || !(1..=LARGEST_FRAGMENT).contains(&size) {
         return Err(Fault::Usage);
     }
