@@ -61,7 +61,7 @@ pub struct Line<'a> {
 }
 
 impl<'a> Line<'a> {
-    /// Splits a line at its spaces.
+    /// Splits a line at white space.
     pub(crate) fn split(heap: Global, text: &'a str) -> Result<Line<'a>, Wrong> {
         let mut words = Vec::new(heap);
         let mut keys = Keys(BTreeMap::new(heap));
@@ -82,10 +82,9 @@ pub(crate) fn uncommented(line: &[u8]) -> &[u8] {
 
 /// A number in decimal digits, or in hexadecimal ones after `0x`, as far as its type goes.
 pub(crate) fn number<T: TryFrom<u64, Error = TryFromIntError>>(text: &str) -> Result<T, Wrong> {
-    let (digits, radix) = match text.strip_prefix("0x") {
-        Some(rest) => (rest, 16),
-        None => (text, 10),
-    };
+    let (digits, radix) = text
+        .strip_prefix("0x")
+        .map_or((text, 10), |rest| (rest, 16));
     // `from_str_radix` would take a sign.
     if digits.starts_with('+') {
         return Err(Wrong);
@@ -122,9 +121,8 @@ pub(crate) fn bytes(heap: Global, text: &str) -> Result<Vec<u8>, Wrong>
 
 // Byte j of a ramp counts up from the start, and by one more for each 256 bytes before it.
 fn ramp(heap: Global, length: usize, start: u8) -> Result<Vec<u8>, AllocError> {
-    let byte = |j| {
-        let low = (j % 256) as u8;
-        let turns = (j / 256 % 256) as u8;
+    let byte = |j: usize| {
+        let [low, turns, ..] = j.to_le_bytes();
         start.wrapping_add(low).wrapping_add(turns)
     };
     (0..length).map(byte).collect(heap)
