@@ -14,6 +14,7 @@ pub(crate) fn whole_parts(len: usize, n: usize) -> usize
 }
 
 /// The part `p`.
+// Kept: that the place is there, and that bytes fit, is asked where a part is cut or put; a type that says it would have to hold the buffer.
 pub(crate) fn part(buf: &[u8], n: usize, p: usize) -> &[u8]
     requires some { 1 ≤ n }
     requires there { p < whole_parts (length buf.now) n }

@@ -33,6 +33,7 @@ pub(crate) fn move_to(spares: &mut [Spare], j: usize, p: usize)
 }
 
 // Writes the bytes to one spare, if it is unused and takes them.
+// Kept: that the bytes fit is asked here and on the way here; a type that says it would have to hold the store.
 fn try_one<S: Store>(below: &mut S, spare: Spare, at: usize, bytes: &[u8]) -> bool
     requires place { at < (S.Store.meaning below.old).count }
     requires short { length bytes.now ≤ (S.Store.meaning below.old).size }
