@@ -1,7 +1,7 @@
 // Pitch tables as text: `axis X`, `screw 17`, then a line for each millimetre with the forward and the return error in micrometres.
 ghost use Rattle.std.specs.Prelude.{◌≡◌, ℕ, length, Some};
 ghost use Rattle.pitch_text.specs.Words.{lines_of, numeral, signed_in};
-ghost use Rattle.pitch_text.specs.Text.{message_of, what_of, fault_text, axis_statement, screw_statement, errors_statement, pair_statement, statement_in, sofar_of, named, numbered, measured, line_taken, Takes, at_end, read_text, Reads};
+ghost use Rattle.pitch_text.specs.Text.{message_of, what_of, fault_text, axis_statement, screw_statement, errors_statement, pair_statement, statement_in, sofar_of, line_taken, Takes, at_end, read_text, Reads};
 
 use crate::words::{before, is_blank, number, signed};
 use pitch::table::{Axis, Entry, Table, TableFault};
@@ -145,47 +145,27 @@ fn statement_in(line: &[u8]) -> Result<Option<Statement>, What>
     }
 }
 
-// Kept: `name` and `number` mirror each other, but one over both would hold two options, with a state that cannot be.
 impl Reading {
-    fn name(self, heap: Global, axis: Axis) -> Result<Reading, What>
-        ensures { Takes result (named axis (sofar_of self)) }
-    {
-        match self {
-            Reading::Start => Ok(Reading::HasAxis(axis)),
-            Reading::HasScrew(screw) => Ok(Reading::Ready(Table::new(heap, axis, screw))),
-            Reading::HasAxis(_) | Reading::Ready(_) => Err(What::Twice),
-        }
-    }
-
-    fn number(self, heap: Global, screw: u16) -> Result<Reading, What>
-        ensures { Takes result (numbered screw (sofar_of self)) }
-    {
-        match self {
-            Reading::Start => Ok(Reading::HasScrew(screw)),
-            Reading::HasAxis(axis) => Ok(Reading::Ready(Table::new(heap, axis, screw))),
-            Reading::HasScrew(_) | Reading::Ready(_) => Err(What::Twice),
-        }
-    }
-
-    fn add(self, entry: Entry) -> Result<Reading, What>
-        ensures { Takes result (measured entry (sofar_of self)) }
-    {
-        let Reading::Ready(mut table) = self else {
-            return Err(What::Early);
-        };
-        table.add(entry)?;
-        Ok(Reading::Ready(table))
-    }
-
     // Reads one more line.
     fn take(self, heap: Global, line: &[u8]) -> Result<Reading, What>
         ensures { Takes result (line_taken (statement_in line.now) (sofar_of self)) }
     {
-        match statement_in(line)? {
-            None => Ok(self),
-            Some(Statement::Named(axis)) => self.name(heap, axis),
-            Some(Statement::Numbered(screw)) => self.number(heap, screw),
-            Some(Statement::Errors(entry)) => self.add(entry),
+        let Some(statement) = statement_in(line)? else {
+            return Ok(self);
+        };
+        match (self, statement) {
+            (Reading::Start, Statement::Named(axis)) => Ok(Reading::HasAxis(axis)),
+            (Reading::Start, Statement::Numbered(screw)) => Ok(Reading::HasScrew(screw)),
+            (Reading::HasScrew(screw), Statement::Named(axis))
+            | (Reading::HasAxis(axis), Statement::Numbered(screw)) => {
+                Ok(Reading::Ready(Table::new(heap, axis, screw)))
+            }
+            (Reading::Ready(mut table), Statement::Errors(entry)) => {
+                table.add(entry)?;
+                Ok(Reading::Ready(table))
+            }
+            (_, Statement::Errors(_)) => Err(What::Early),
+            _ => Err(What::Twice),
         }
     }
 }
