@@ -1,4 +1,5 @@
 pub mod Scans
+pub mod Numbers
 pub mod Texts
 pub mod Pieces
 pub mod Shows

@@ -1,5 +1,6 @@
 -- Lines, words and numbers in a list of bytes.
-use Rattle.std.specs.Prelude.{ℕ, ◌+◌, ◌-◌, ◌*◌, Bool, cond, ◌&&◌, ◌||◌, List, [], ◌∷◌, ℤ, pos, neg_ℤ, Some, None, Option, ◌==◌, nat_eq, nat_le}
+use Rattle.std.specs.Prelude.{◌≡◌, ◌≢◌, ℕ, ◌+◌, ◌-◌, ◌*◌, Bool, cond, ◌&&◌, ◌||◌, ◌⊎◌, List, [], ◌∷◌, ℤ, pos, neg_ℤ, Some, None, Ok, Err, Option, Result, ◌==◌, nat_eq, nat_le, slice_index}
+use Rattle.std.specs.Str.{IsUtf8}
 
 -- the bytes before the first that passes a test, or all
 abbrev pub up_to : (ℕ → Bool) → List ℕ → List ℕ
@@ -66,3 +67,8 @@ below (Some n) = Some (neg_ℤ (pos n))
 abbrev pub signed_in : List ℕ → Option ℤ
 signed_in [] = None
 signed_in (x ∷ xs) = cond (x == 45) (below (numeral 32768 xs)) (above (numeral 32767 (x ∷ xs)))
+
+-- what `parse` gives of the bytes, or none where they begin with a plus, are no text or no number
+abbrev pub IsParsed : {T E : Type 0} → (List ℕ → Result T E → Type 0) → List ℕ → Option T → Type 0
+IsParsed gives w (Some x) = (slice_index w 0 ≢ 43) × gives w (Ok x)
+IsParsed {T} {E} gives w None = (slice_index w 0 ≡ 43) ⊎ ((¬ (IsUtf8 w)) ⊎ ((e : E) × gives w (Err e)))

@@ -108,9 +108,7 @@ fn axis_statement(word: &[u8]) -> Result<Statement, What>
 fn screw_statement(word: &[u8]) -> Result<Statement, What>
     ensures { result ≡ screw_statement (numeral 65535 word.now) }
 {
-    number(word, 65535)
-        .map(Statement::Numbered)
-        .ok_or(What::Screw)
+    number(word).map(Statement::Numbered).ok_or(What::Screw)
 }
 
 fn errors_statement(first: &[u8], second: &[u8]) -> Result<Statement, What>

@@ -1,6 +1,8 @@
 // Words and numbers in bytes.
-ghost use Rattle.std.specs.Prelude.{◌≡◌, ◌≤◌, pos, neg_ℤ, IfSome};
-ghost use Rattle.pitch_text.specs.Words.{before, blank, digit_after, numeral, signed_in};
+ghost use Rattle.std.specs.Prelude.{◌≡◌};
+ghost use Rattle.pitch_text.specs.Words.{before, blank, IsParsed, numeral, signed_in};
+
+use std::str::{self, FromStr};
 
 // What stands before the first `b`, or all.
 pub(crate) fn before(s: &[u8], b: u8) -> &[u8]
@@ -16,46 +18,28 @@ pub(crate) fn is_blank(b: u8) -> bool
     matches!(b, b' ' | b'\t' | b'\r')
 }
 
-// One more digit after those that make `n`.
-fn one_more(n: u16, byte: u8, limit: u16) -> Option<u16>
-    ensures value { result ≡ digit_after limit n byte }
-    ensures bound { IfSome result (λ m. m ≤ limit) }
+// A number as the library reads it, but for a plus sign in front.
+fn parsed<T: FromStr + Drop>(word: &[u8]) -> Option<T>
+where
+    T::Err: Drop,
+    ensures { IsParsed T.from_str_gives word.now result }
 {
-    if !byte.is_ascii_digit() {
-        return None;
+    match word {
+        [b'+', ..] => None,
+        _ => str::from_utf8(word).ok()?.parse().ok(),
     }
-    let more = n.checked_mul(10)?.checked_add(u16::from(byte - b'0'))?;
-    (more <= limit).then_some(more)
 }
 
-// A decimal number of at most `limit`. Kept: the library's `parse` takes a plus sign as well.
-pub(crate) fn number(word: &[u8], limit: u16) -> Option<u16>
-    ensures value { result ≡ numeral limit word.now }
-    ensures bound { IfSome result (λ n. n ≤ limit) }
+// A decimal number of 16 bits.
+pub(crate) fn number(word: &[u8]) -> Option<u16>
+    ensures { result ≡ numeral 65535 word.now }
 {
-    if word.is_empty() {
-        return None;
-    }
-    let mut n = 0;
-    for byte in word {
-        n = one_more(n, *byte, limit)?;
-    }
-    Some(n)
-}
-
-fn negated(n: u16) -> i16
-    requires { n ≤ 32768 }
-    ensures { result ≡ neg_ℤ (pos n) }
-{
-    -i32::from(n) as i16
+    parsed(word)
 }
 
 // A number of 16 bits, with a minus in front where it is below 0.
 pub(crate) fn signed(word: &[u8]) -> Option<i16>
     ensures { result ≡ signed_in word.now }
 {
-    match word {
-        [b'-', digits @ ..] => number(digits, 32768).map(negated),
-        _ => number(word, 32767).map(|n| n as i16),
-    }
+    parsed(word)
 }
