@@ -10,8 +10,11 @@ use std::fmt;
 /// The axis that the screw drives.
 #[derive(Clone, Copy, PartialEq, Eq, Debug)]
 pub enum Axis {
+    /// The axis X.
     X,
+    /// The axis Y.
     Y,
+    /// The axis Z.
     Z,
 }
 
@@ -30,7 +33,9 @@ impl fmt::Display for Axis {
 /// The errors at one millimetre, in micrometres: on the way out and on the way back.
 #[derive(Clone, Copy, PartialEq, Eq, Debug)]
 pub struct Entry {
+    /// The error on the way out.
     pub forward: i16,
+    /// The error on the way back.
     pub back: i16,
 }
 
@@ -40,8 +45,11 @@ pub const MOST_MILLIMETRES: usize = 2000;
 /// The errors of one screw, a millimetre apart.
 #[derive(Drop)]
 pub struct Table {
+    /// The axis that the screw drives.
     pub axis: Axis,
+    /// The screw's number.
     pub screw: u16,
+    /// The millimetres in their order, at most `MOST_MILLIMETRES`.
     pub entries: Vec<Entry>,
     ghost few: { vec_len entries ≤ most_millimetres },
 }

@@ -31,10 +31,12 @@ pub enum What {
     Missing,
 }
 
-/// What is wrong, and in which line, from 1; line 0 is an empty text.
+/// What is wrong with a text, and in which line.
 #[derive(Clone, Copy, PartialEq, Eq, Debug)]
 pub struct TextFault {
+    /// The line, from 1, or 0 in an empty text.
     pub line: usize,
+    /// What is wrong with it.
     pub what: What,
 }
 
