@@ -1,41 +1,30 @@
 -- Packing and unpacking. Assumes nothing.
 use Rattle.std.proofs.Common.{◌≡◌, ℕ, zero, suc, ◌+◌, ◌*◌, ◌/◌, ◌%◌, ◌<◌, ◌≤◌, true, eqb, leb, List, [], ◌∷◌, ◌++◌, map, length, get_or, take, drop, Some, Ok, sym, refl, ap, ◌∙◌, arith, w16, to_z, of_z}
-use Rattle.std.specs.List.{range_with_len, flat_map, AllByRecursion as All}
+use Rattle.std.specs.List.{flat_map, AllByRecursion as All}
 use Rattle.std.specs.Simd.{first_chunks}
-use Rattle.std.proofs.lemmas.List.FromFn.{length-map-range_with_len}
 use Rattle.std.proofs.lemmas.Bool.Decides.{nat_tests}
 use Rattle.std.proofs.lemmas.Int.{of_z-to_z}
 use Rattle.pitch.specs.declared.table.Axis.{Axis}
 use Rattle.pitch.specs.declared.table.Axis.TheVariants.{X, Y, Z}
-use Rattle.pitch.specs.Block.{Parts, code, four_of, head_of, block_of, entry_at, entry_in, entries_in, screw_in, count_in, axis_of, headed, parsed}
-use Rattle.std.proofs.lemmas.List.{nil_from_length, length-drop, drop_more, drop-drop, get_or-drop, get_or-take}
+use Rattle.pitch.specs.Block.{Parts, code, four_of, head_of, block_of, entry_in, entries_in, screw_in, count_in, axis_of, headed, parsed}
+use Rattle.std.proofs.lemmas.List.{nil_from_length, length-drop, length-map, drop_more, get_or-drop}
 use Rattle.pitch.specs.declared.table.Entry.{Entry}
 
 -- the four bytes of an entry give it again, since its numbers have 16 bits
 abbrev pub Fitting : Entry → Type 0
 Fitting e = entry_in (four_of e) ≡ e
 
--- the millimetres of a block, four bytes at a time
-module _ (bs : List ℕ) where
-  entry_here : (body : List ℕ) (k : ℕ) → body ≡ drop (8 + 4 * k) bs → entry_in (take 4 body) ≡ entry_at bs k
-  entry_here body k e =
-      let at : (j : ℕ) → j < 4 → get_or (take 4 body) j 0 ≡ get_or bs (8 + 4 * k + j) 0 = λ j h. get_or-take 4 body j 0 h ∙ (ap (λ xs. get_or xs j 0) e ∙ get_or-drop (8 + 4 * k) bs j 0) in
-      let a0 : get_or (take 4 body) 0 0 ≡ get_or bs (8 + 4 * k) 0 = at 0 (omega arith) ∙ ap (λ i. get_or bs i 0) (omega arith) in
-      let a1 : get_or (take 4 body) 1 0 ≡ get_or bs (9 + 4 * k) 0 = at 1 (omega arith) ∙ ap (λ i. get_or bs i 0) (omega arith) in
-      let a2 : get_or (take 4 body) 2 0 ≡ get_or bs (10 + 4 * k) 0 = at 2 (omega arith) ∙ ap (λ i. get_or bs i 0) (omega arith) in
-      let a3 : get_or (take 4 body) 3 0 ≡ get_or bs (11 + 4 * k) 0 = at 3 (omega arith) ∙ ap (λ i. get_or bs i 0) (omega arith) in
-      rw (a0, a1, a2, a3)
+length_chunks : (n : ℕ) (xs : List ℕ) → length (first_chunks 4 n xs) ≡ n
+length_chunks zero xs = refl
+length_chunks (suc n) xs = ap suc (length_chunks n (drop 4 xs))
 
-  entries_from : (body : List ℕ) (k n : ℕ) → body ≡ drop (8 + 4 * k) bs → map entry_in (first_chunks 4 n body) ≡ map (entry_at bs) (range_with_len k n)
-  entries_from body k zero e = refl
-  entries_from body k (suc n) e =
-      let next : drop 4 body ≡ drop (8 + 4 * (k + 1)) bs = ap (drop 4) e ∙ (drop-drop 4 (8 + 4 * k) bs ∙ ap (λ i. drop i bs) (omega arith)) in
-      rw (entry_here body k e, entries_from (drop 4 body) (k + 1) n next)
+pub length_entries : (bs : List ℕ) (n : ℕ) → length (entries_in bs n) ≡ n
+length_entries bs n = length-map (first_chunks 4 n (drop 8 bs)) entry_in ∙ length_chunks n (drop 8 bs)
 
-  pub unpacked : (body : List ℕ) (es : List Entry) (n : ℕ) → body ≡ drop 8 bs → length body ≡ 4 * n → es ≡ map entry_in (first_chunks 4 (length body / 4) body) → es ≡ entries_in bs n
-  unpacked body es n is len all =
-      let count : length body / 4 ≡ n = omega arith in
-      all ∙ rw count (entries_from body 0 n is)
+pub unpacked : (bs body : List ℕ) (es : List Entry) (n : ℕ) → body ≡ drop 8 bs → length body ≡ 4 * n → es ≡ map entry_in (first_chunks 4 (length body / 4) body) → es ≡ entries_in bs n
+unpacked bs body es n is len all =
+    let count : length body / 4 ≡ n = omega arith in
+    all ∙ rw (count, is)
 
 two_bytes : (n : ℕ) → n < 65536 → n % 256 + (n / 256 % 256) * 256 ≡ n
 two_bytes n h = omega arith
@@ -71,8 +60,8 @@ module _ (bs : List ℕ) (small : (i : ℕ) → get_or bs i 0 < 256) where
 
   whole : (a : Axis) → 8 ≤ length bs → get_or bs 0 0 ≡ 80 → get_or bs 1 0 ≡ 84 → get_or bs 7 0 ≡ 0 → axis_of (get_or bs 2 0) ≡ Some a → length bs ≡ 8 + 4 * count_in bs → bs ≡ block_of (record { axis = a; screw = screw_in bs; entries = entries_in bs (count_in bs) })
   whole a long b0 b1 b7 name len =
-      let rest : flat_map four_of (entries_in bs (count_in bs)) ≡ drop 8 bs = ap (flat_map four_of) (sym (entries_from bs (drop 8 bs) 0 (count_in bs) refl)) ∙ body_back (count_in bs) (drop 8 bs) (omega (arith, length-drop 8 bs)) (λ i. rw get_or-drop (small (8 + i))) in
-      let n : length (entries_in bs (count_in bs)) ≡ count_in bs = length-map-range_with_len (entry_at bs) 0 (count_in bs) in
+      let rest : flat_map four_of (entries_in bs (count_in bs)) ≡ drop 8 bs = body_back (count_in bs) (drop 8 bs) (omega (arith, length-drop 8 bs)) (λ i. rw get_or-drop (small (8 + i))) in
+      let n : length (entries_in bs (count_in bs)) ≡ count_in bs = length_entries bs (count_in bs) in
       let p0 : drop 0 bs ≡ get_or bs 0 0 ∷ drop 1 bs = drop_more bs 0 0 (omega arith) in
       let p1 : drop 1 bs ≡ get_or bs 1 0 ∷ drop 2 bs = drop_more bs 1 0 (omega arith) in
       let p2 : drop 2 bs ≡ get_or bs 2 0 ∷ drop 3 bs = drop_more bs 2 0 (omega arith) in
@@ -128,6 +117,6 @@ parsed_block p sound =
     let n : count_in (block_of p) ≡ length p.entries = two_bytes (length p.entries) (omega (arith, sound.few)) in
     let s : screw_in (block_of p) ≡ p.screw = two_bytes p.screw sound.screw in
     let long : length (block_of p) ≡ 8 + 4 * count_in (block_of p) = omega (arith, n, length_body p.entries) in
-    let es : map (entry_at (block_of p)) (range_with_len 0 (length p.entries)) ≡ p.entries = sym (entries_from (block_of p) (flat_map four_of p.entries) 0 (length p.entries) refl) ∙ entries_back p.entries sound.fits in
+    let es : entries_in (block_of p) (length p.entries) ≡ p.entries = entries_back p.entries sound.fits in
     let head : headed (block_of p) ≡ true = grind (arith, nat_tests) in
     parsed_if (block_of p) p.axis head (axis_again p.axis) (omega (arith, n, sound.few)) long ∙ rw (n, s, es)

@@ -1,8 +1,9 @@
 -- The block of bytes of a table, and the table of a block.
-use Rattle.std.specs.Prelude.{◌≡◌, ℕ, ◌+◌, ◌*◌, ◌/◌, ◌%◌, Bool, true, cond, ◌&&◌, ◌⊎◌, List, [], ◌∷◌, ◌++◌, map, length, is_ok, Some, None, Ok, Err, vec_items, Option, Result, ◌==◌, nat_le, slice_index}
+use Rattle.std.specs.Prelude.{◌≡◌, ℕ, ◌+◌, ◌*◌, ◌/◌, ◌%◌, Bool, true, cond, ◌&&◌, ◌⊎◌, List, [], ◌∷◌, ◌++◌, map, drop, length, is_ok, Some, None, Ok, Err, vec_items, Option, Result, ◌==◌, nat_le, slice_index}
 use Rattle.std.proofs.Common.{to_z, of_z}
 use Rattle.std.specs.Int.{w16}
-use Rattle.std.specs.List.{flat_map, range_with_len}
+use Rattle.std.specs.List.{flat_map}
+use Rattle.std.specs.Simd.{first_chunks}
 use Rattle.pitch.specs.Limits.{most_millimetres}
 use Rattle.pitch.specs.declared.table.Axis.{Axis}
 use Rattle.pitch.specs.declared.table.Axis.TheVariants.{X, Y, Z}
@@ -38,16 +39,8 @@ abbrev pub block_of : Parts → List ℕ
 block_of p = head_of p.axis p.screw (length p.entries) ++ flat_map four_of p.entries
 
 -- the millimetre of four bytes
-abbrev pub entry_of : ℕ → ℕ → ℕ → ℕ → Entry
-entry_of a b c d = record { forward = to_z w16 (a + b * 256); back = to_z w16 (c + d * 256) }
-
--- the same, of the four as a list
 abbrev pub entry_in : List ℕ → Entry
-entry_in b = entry_of (slice_index b 0) (slice_index b 1) (slice_index b 2) (slice_index b 3)
-
--- millimetre i of a block
-abbrev pub entry_at : List ℕ → ℕ → Entry
-entry_at bs i = entry_of (slice_index bs (8 + 4 * i)) (slice_index bs (9 + 4 * i)) (slice_index bs (10 + 4 * i)) (slice_index bs (11 + 4 * i))
+entry_in b = record { forward = to_z w16 (slice_index b 0 + slice_index b 1 * 256); back = to_z w16 (slice_index b 2 + slice_index b 3 * 256) }
 
 abbrev pub screw_in : List ℕ → ℕ
 screw_in bs = slice_index bs 3 + slice_index bs 4 * 256
@@ -55,8 +48,9 @@ screw_in bs = slice_index bs 3 + slice_index bs 4 * 256
 abbrev pub count_in : List ℕ → ℕ
 count_in bs = slice_index bs 5 + slice_index bs 6 * 256
 
+-- the first n millimetres of a block, four bytes each after the head
 abbrev pub entries_in : List ℕ → ℕ → List Entry
-entries_in bs n = map (entry_at bs) (range_with_len 0 n)
+entries_in bs n = map entry_in (first_chunks 4 n (drop 8 bs))
 
 abbrev pub axis_of : ℕ → Option Axis
 axis_of b = cond (b == 0) (Some X) (cond (b == 1) (Some Y) (cond (b == 2) (Some Z) None))

@@ -3,7 +3,7 @@ ghost use Rattle.std.specs.Prelude.{◌≡◌, ◌/◌, map, length, IfOk, Ok, M
 ghost use Rattle.std.specs.Option.{ok_or};
 ghost use Rattle.std.specs.Simd.{first_chunks};
 ghost use Rattle.pitch.specs.declared.pack.PitchFault.TheVariants.{Memory, Axis as NoAxis};
-ghost use Rattle.pitch.specs.Block.{code, four_of, head_of, block_of, parts_of, axis_of, entry_of, entry_in, parsed, Unpacks};
+ghost use Rattle.pitch.specs.Block.{code, four_of, head_of, block_of, parts_of, axis_of, entry_in, parsed, Unpacks};
 
 use crate::table::{Axis, Entry, MOST_MILLIMETRES, Table};
 use std::alloc::{AllocError, AllocFailed, Global};

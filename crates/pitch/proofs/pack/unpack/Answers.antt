@@ -1,15 +1,14 @@
 use Rattle.std.proofs.Common.{◌≡◌, length, get_or, ap, arith, rules, Some}
 use Rattle.std.proofs.lemmas.List.{take_rest}
-use Rattle.std.proofs.lemmas.List.FromFn.{length-map-range_with_len}
-use Rattle.pitch.specs.Block.{entry_at, entries_in, axis_of}
-use Rattle.pitch.proofs.Blocks.{unpacked, block_back}
+use Rattle.pitch.specs.Block.{entries_in, axis_of}
+use Rattle.pitch.proofs.Blocks.{length_entries, unpacked, block_back}
 use Rattle.pitch.proofs.pack.unpack.Goals as goal
 
 pub invariant_of-result : goal.invariant_of-result
 invariant_of-result c =
     let bs = c.args.bytes.now in
     let es : c.in_ok-entries.entries.items ≡ entries_in bs c.from-count.result = unpacked bs _ _ c.from-count.result (take_rest bs 8) (search rules) c.in_ok-entries.ensures in
-    record { few = omega (arith, ap length es, length-map-range_with_len (entry_at bs) 0 c.from-count.result) }
+    record { few = omega (arith, ap length es, length_entries bs c.from-count.result) }
 
 pub returns : goal.returns
 returns c =
