@@ -1,14 +1,18 @@
 -- Numbers as the library reads them. Assumes nothing.
-use Rattle.std.proofs.Common.{◌≡◌, ◌≢◌, ℕ, zero, suc, ◌+◌, ◌-◌, ◌*◌, ◌<◌, ◌≤◌, true, false, cond, ◌&&◌, eqb, leb, List, [], ◌∷◌, length, get_or, ℤ, pos, neg_ℤ, Some, None, Ok, Err, Option, Result, inl, inr, sym, refl, ap, ◌∙◌, arith, rules, w16}
+use Rattle.std.proofs.Common.{◌≡◌, ◌≢◌, ℕ, zero, suc, ◌+◌, ◌-◌, ◌*◌, ◌^◌, ◌<◌, ◌≤◌, true, false, cond, ◌&&◌, eqb, leb, List, [], ◌∷◌, length, get_or, ℤ, pos, neg_ℤ, Some, None, Ok, Err, Option, Result, inl, inr, sym, refl, ap, ◌∙◌, arith, rules, w16}
+use Rattle.std.specs.Option.{option_map}
+use Rattle.std.specs.List.{AllByRecursion as All}
+use Rattle.std.specs.Fmt.{decimal}
 use Rattle.std.specs.Str.{all_ascii_digits, IsAscii}
-use Rattle.std.specs.Str.Parse.{ParsesUnsigned, ParsesSigned, ExplainsUnsignedError, ExplainsSignedError, HasUnsignedDigitsIfOk, HasSignedDigitsIfOk}
+use Rattle.std.specs.Str.Parse.{AllDigits, ParsesUnsigned, ParsesSigned, ExplainsUnsignedError, ExplainsSignedError, HasUnsignedDigitsIfOk, HasSignedDigitsIfOk}
 use Rattle.std.specs.declared.num.ParseIntError.{ParseIntError}
 use Rattle.std.proofs.lemmas.Bool.{cases_lt}
 use Rattle.std.proofs.lemmas.Bool.Decides.{nat_tests}
+use Rattle.std.proofs.lemmas.Fmt.{digits_decimal, digits_value-decimal, decimal_is_IsNumeral}
 use Rattle.std.proofs.lemmas.List.{get_or_past}
 use Rattle.std.proofs.lemmas.Str.{IsUtf8-from_ascii}
-use Rattle.std.proofs.lemmas.Str.Parse.{IsNumeralModel, numerals_by_fold, digit_at, parse_plain, parse_digits, parse_signed_digits, parse_signed_plain, parse_signed_minus}
-use Rattle.pitch_text.specs.Words.{digit, read_on, numeral, above, below, signed_in, IsParsed}
+use Rattle.std.proofs.lemmas.Str.Parse.{IsNumeralModel, digit_from_value, numerals_by_fold, digit_at, parse_plain, parse_digits, parse_signed_digits, parse_signed_plain, parse_signed_minus}
+use Rattle.pitch_text.specs.Words.{digit, read_on, numeral, signed_in, IsParsed}
 
 -- the number of digits after those of n
 abbrev pub value_after : ℕ → List ℕ → ℕ
@@ -85,13 +89,9 @@ number_told w None (inr (inr e)) = λ n. parse_digits own {E = ParseIntError} 16
 pub number_is : (w : List ℕ) (o : Option ℕ) → IsParsed AsUnsigned w o → o ≡ numeral 65535 w
 number_is w o h = same o (numeral 65535 w) (IsNumeralOf 65535 w) (value_after 0 w) (number_told w o h) (numeral_is 65535 w)
 
-above_is : (o : Option ℕ) (P : Type 0) (v : ℕ) → SomeIff o P v → SomeIff (above o) P (pos v)
-above_is None P v h = h
-above_is (Some n) P v h = (h.0, ap pos h.1)
-
-below_is : (o : Option ℕ) (P : Type 0) (v : ℕ) → SomeIff o P v → SomeIff (below o) P (neg_ℤ (pos v))
-below_is None P v h = h
-below_is (Some n) P v h = (h.0, ap (λ m. neg_ℤ (pos m)) h.1)
+map_is : (f : ℕ → ℤ) (o : Option ℕ) (P : Type 0) (v : ℕ) → SomeIff o P v → SomeIff (option_map f o) P (f v)
+map_is f None P v h = h
+map_is f (Some n) P v h = (h.0, ap f h.1)
 
 plain_told : (w : List ℕ) → get_or w 0 0 ≢ 45 → (o : Option ℤ) → IsParsed AsSigned w o → SomeIff o (IsNumeralOf 32767 w) (pos (value_after 0 w))
 plain_told w no_minus (Some z) k = let p = parse_signed_plain own {E = ParseIntError} w16 w (Ok z) k.1.0 k.0 no_minus in ((p.0.0, p.0.1, omega (arith, p.0.2)), p.1)
@@ -106,8 +106,37 @@ minus_told x xs minus None (inr (inl bad)) = λ n. bad (IsUtf8-from_ascii (x ∷
 minus_told x xs minus None (inr (inr e)) = λ n. parse_signed_minus own {E = ParseIntError} w16 (x ∷ xs) (Err e.0) e.1.0 minus (n.0, n.1, omega (arith, n.2))
 
 pub signed_is : (w : List ℕ) (o : Option ℤ) → IsParsed AsSigned w o → o ≡ signed_in w
-signed_is [] o h = same o None (IsNumeralOf 32767 []) (pos 0) (plain_told [] (λ e. omega (arith, e)) o h) (above_is None _ 0 (numeral_is 32767 []))
-signed_is (x ∷ xs) o h = elim (eqb x 45) as (λ b. eqb x 45 ≡ b → o ≡ cond b (below (numeral 32768 xs)) (above (numeral 32767 (x ∷ xs)))) [
-  | true ↦ λ t. same o (below (numeral 32768 xs)) (IsNumeralOf 32768 xs) (neg_ℤ (pos (value_after 0 xs))) (minus_told x xs (grind (arith, nat_tests)) o h) (below_is _ _ _ (numeral_is 32768 xs))
-  | false ↦ λ f. same o (above (numeral 32767 (x ∷ xs))) (IsNumeralOf 32767 (x ∷ xs)) (pos (value_after 0 (x ∷ xs))) (plain_told (x ∷ xs) (λ e. grind (arith, nat_tests)) o h) (above_is _ _ _ (numeral_is 32767 (x ∷ xs)))
+signed_is [] o h = same o None (IsNumeralOf 32767 []) (pos 0) (plain_told [] (λ e. omega (arith, e)) o h) (map_is pos None _ 0 (numeral_is 32767 []))
+signed_is (x ∷ xs) o h = elim (eqb x 45) as (λ b. eqb x 45 ≡ b → o ≡ cond b (option_map (λ n. neg_ℤ (pos n)) (numeral 32768 xs)) (option_map pos (numeral 32767 (x ∷ xs)))) [
+  | true ↦ λ t. same o (option_map (λ n. neg_ℤ (pos n)) (numeral 32768 xs)) (IsNumeralOf 32768 xs) (neg_ℤ (pos (value_after 0 xs))) (minus_told x xs (grind (arith, nat_tests)) o h) (map_is _ _ _ _ (numeral_is 32768 xs))
+  | false ↦ λ f. same o (option_map pos (numeral 32767 (x ∷ xs))) (IsNumeralOf 32767 (x ∷ xs)) (pos (value_after 0 (x ∷ xs))) (plain_told (x ∷ xs) (λ e. grind (arith, nat_tests)) o h) (map_is _ _ _ _ (numeral_is 32767 (x ∷ xs)))
 ] refl
+
+-- the digits of a number are read as that number
+some_is : (o : Option ℕ) (P : Type 0) (v : ℕ) → SomeIff o P v → P → o ≡ Some v
+some_is None P v h p = absurd (h p)
+some_is (Some x) P v h p = ap Some h.1
+
+pub numeral_decimal : (limit n : ℕ) → n ≤ limit → n < 2 ^ 64 → numeral limit (decimal n) ≡ Some n
+numeral_decimal limit n le h =
+    let v : value_after 0 (decimal n) ≡ n = digits_value-decimal own n h in
+    some_is (numeral limit (decimal n)) _ _ (numeral_is limit (decimal n)) (digits_decimal own n h, (decimal_is_IsNumeral n h).0.0, omega (arith, v, le)) ∙ ap Some v
+
+-- a byte of a number: a minus or a digit
+abbrev pub NumeralByte : ℕ → Type 0
+NumeralByte x = (45 ≤ x) × (x ≤ 57)
+
+digits_numeral : (ds : List ℕ) → AllDigits 10 ds → All NumeralByte ds
+digits_numeral [] h = tt
+digits_numeral (c ∷ cs) h = let r = digit_from_value c h.0 in ((omega (arith, r.0), r.1), digits_numeral cs h.1)
+
+-- a word of a number
+pub record Numeric (w : List ℕ) : Type 0 where
+  pub bytes : All NumeralByte w
+  pub some : 0 < length w
+
+pub decimal_numeric : (n : ℕ) → n < 2 ^ 64 → Numeric (decimal n)
+decimal_numeric n h = let d = decimal_is_IsNumeral n h in record { bytes = digits_numeral (decimal n) d.0.1; some = d.0.0 }
+
+pub no_minus : (n : ℕ) → n < 2 ^ 64 → get_or (decimal n) 0 0 ≢ 45
+no_minus n h e = let r = digit_at (decimal n) 0 (decimal_is_IsNumeral n h).0.1 (decimal_is_IsNumeral n h).0.0 in omega (arith, r.0, e)

@@ -1,12 +1,12 @@
 -- Lines, words and numbers, a byte at a time. Assumes nothing.
-use Rattle.std.proofs.Common.{◌≡◌, ℕ, suc, ◌+◌, ◌<◌, Bool, true, false, cond, not, eqb, ltb, List, [], ◌∷◌, length, take, drop, filter, Some, None, Option, unwrap_or, sym, refl, ap, ◌∙◌, arith}
+use Rattle.std.proofs.Common.{◌≡◌, ℕ, suc, ◌+◌, Bool, true, false, cond, not, eqb, ltb, List, [], ◌∷◌, length, take, drop, filter, Some, None, Option, unwrap_or, sym, refl, ap, ◌∙◌, arith}
 use Rattle.std.specs.List.{before_first, position_or_len, slice_split, onto_first}
 use Rattle.std.specs.Iterator.{AlwaysYields}
 use Rattle.std.specs.Iterator.Runs.{Run, EachRunFrom}
 use Rattle.std.proofs.lemmas.Iterator.{YieldsList}
 use Rattle.std.proofs.lemmas.Bool.Decides.{nat_tests}
 use Rattle.std.proofs.lemmas.List.Sums.{prefix_len-le-length}
-use Rattle.pitch_text.specs.Words.{up_to, onto, lines_of, words_of, joins, blank, read_on, numeral}
+use Rattle.pitch_text.specs.Words.{up_to, onto, lines_of, words_of, joins, blank}
 
 -- the bytes from the first that passes a test on, or none
 abbrev pub from : (ℕ → Bool) → List ℕ → List ℕ
@@ -120,8 +120,3 @@ module _ {S A B : Type 0} (steps : S → Option A → S → Type 0) (v : A → B
 -- the same; the first fact is the clause `runs` of the call that made the chain, and tells what its steps are
 pub three : {S A B : Type 0} {steps : S → Option A → S → Type 0} {s t u w : S} {P : Run steps → Type 0} {all : List B} (v : A → B) (a b c : Option A) → EachRunFrom steps s P → YieldsList steps v s all → steps s a t → steps t b u → steps u c w → Three v a b c all
 three {steps} v a b c runs road one two last = three_of steps v a b c _ _ _ _ _ road.runs one two last
-
--- a word with a byte in it
-pub numeral_some : (limit : ℕ) (xs : List ℕ) → 0 < length xs → numeral limit xs ≡ read_on limit 0 xs
-numeral_some limit [] h = absurd (omega arith)
-numeral_some limit (x ∷ xs) h = refl

@@ -1,91 +1,40 @@
 -- Writing a text and reading it again. Assumes nothing.
-use Rattle.std.proofs.Common.{◌≡◌, ℕ, suc, ◌+◌, ◌-◌, ◌*◌, ◌/◌, ◌%◌, ◌^◌, ◌<◌, ◌≤◌, Bool, true, false, ◌&&◌, eqb, ltb, leb, List, [], ◌∷◌, ◌++◌, length, ℤ, pos, negsuc, Some, None, Ok, codes, decimal, refl, ap, ◌∙◌, arith, w16, SFits}
+use Rattle.std.proofs.Common.{◌≡◌, ◌≢◌, get_or, ℕ, suc, ◌+◌, ◌^◌, ◌<◌, ◌≤◌, Bool, true, false, eqb, ltb, List, [], ◌∷◌, ◌++◌, length, ℤ, pos, negsuc, Some, Ok, codes, decimal, refl, ap, ◌∙◌, arith, w16, SFits}
 use Rattle.std.specs.Fmt.{signed_decimal}
 use Rattle.std.specs.List.{flat_map, AllByRecursion as All}
 use Rattle.std.specs.Str.{bytes_eq}
-use Rattle.std.proofs.lemmas.Fmt.{decimal_by_steps}
-use Rattle.std.proofs.ByRecursion.{All-push, All-weaker, All-append}
+use Rattle.std.proofs.ByRecursion.{All-weaker, All-append}
 use Rattle.std.proofs.lemmas.List.{append_assoc, append-nil, length-append, length_push}
 use Rattle.std.proofs.lemmas.Bool.Decides.{nat_tests}
 use Rattle.pitch.specs.declared.table.Axis.{Axis}
 use Rattle.pitch.specs.declared.table.Axis.TheVariants.{X, Y, Z}
 use Rattle.pitch.specs.declared.table.Entry.{Entry}
 use Rattle.pitch_text.specs.declared.text.Statement.TheVariants.{Named, Numbered, Errors}
-use Rattle.pitch_text.specs.Words.{up_to, before, blank, words_of, lines_of, digit, digit_after, onward, read_on, numeral, signed_in}
+use Rattle.pitch_text.specs.Words.{up_to, before, blank, words_of, lines_of, numeral, signed_in}
 use Rattle.pitch.specs.Names.{axis_name}
 use Rattle.pitch.specs.Block.{Parts}
 use Rattle.pitch_text.specs.Text.{line_of, head_lines, text_of, pair_statement, said, statement_of, statement_in, start, has_axis, ready, read_lines, read_text}
-use Rattle.pitch_text.proofs.Scans.{from, numeral_some, word_first}
+use Rattle.pitch_text.proofs.Scans.{from, word_first}
+use Rattle.pitch_text.proofs.Numbers.{NumeralByte, Numeric, decimal_numeric, numeral_decimal, no_minus}
 use Rattle.pitch_text.proofs.Texts.{lines_cut}
 
 -- an entry of two numbers of 16 bits
 abbrev pub Fits16 : Entry → Type 0
 Fits16 e = SFits w16 e.forward × SFits w16 e.back
 
--- a byte of a number: a minus or a digit
-abbrev NumeralByte : ℕ → Type 0
-NumeralByte x = (45 ≤ x) × (x ≤ 57)
-
-digit_after_lem : (limit k d n : ℕ) → d < 10 → k * 10 + d ≡ n → n ≤ limit → digit_after limit k (48 + d) ≡ Some n
-digit_after_lem limit k d n small is le =
-    let v : k * 10 + (48 + d - 48) ≡ n = omega arith in
-    let t : (digit (48 + d) && leb (k * 10 + (48 + d - 48)) limit) ≡ true = grind (arith, nat_tests) in
-    rw t (ap Some v)
-
-read_append : (limit : ℕ) (es ds : List ℕ) (m : ℕ) → read_on limit m (ds ++ es) ≡ onward (read_on limit m ds) (λ k. read_on limit k es)
-read_append limit es [] m = refl
-read_append limit es (y ∷ ys) m = elim (digit_after limit m y) as (λ o. onward o (λ j. read_on limit j (ys ++ es)) ≡ onward (onward o (λ j. read_on limit j ys)) (λ k. read_on limit k es)) [ None ↦ refl | Some j ↦ read_append limit es ys j ]
-
--- ds are the digits of n
-record Writes (n : ℕ) (ds : List ℕ) : Type 0 where
-  value : (limit : ℕ) → n ≤ limit → read_on limit 0 ds ≡ Some n
-  digits : All (λ x. (48 ≤ x) × (x ≤ 57)) ds
-  some : 0 < length ds
-
-write_one : (n : ℕ) → n < 10 → Writes n ((48 + n) ∷ [])
-write_one n h = record {
-  value = λ limit le. let e : digit_after limit 0 (48 + n) ≡ Some n = digit_after_lem limit 0 n n h (omega arith) le in rw e;
-  digits = ((omega arith, omega arith), tt);
-  some = omega arith;
-}
-
-write_more : (n : ℕ) (ds : List ℕ) → 10 ≤ n → Writes (n / 10) ds → Writes n (ds ++ ((48 + n % 10) ∷ []))
-write_more n ds h w = record {
-  value = λ limit le.
-      let front : read_on limit 0 ds ≡ Some (n / 10) = w.value limit (omega arith) in
-      let e : digit_after limit (n / 10) (48 + n % 10) ≡ Some n = digit_after_lem limit (n / 10) (n % 10) n (omega arith) (omega arith) le in
-      read_append limit ((48 + n % 10) ∷ []) ds 0 ∙ rw (front, e);
-  digits = All-push (λ x. (48 ≤ x) × (x ≤ 57)) ds (48 + n % 10) w.digits (omega arith, omega arith);
-  some = omega (arith, length-append ds ((48 + n % 10) ∷ []));
-}
-
-decimal_writes : (n : ℕ) → n < 2 ^ 64 → Writes n (decimal n)
-decimal_writes n h = decimal_by_steps Writes write_one write_more n h
-
-signed_above : (ds : List ℕ) (n : ℕ) → Writes n ds → n ≤ 32767 → signed_in ds ≡ Some (pos n)
-signed_above [] n w h = absurd (omega (arith, w.some))
-signed_above (x ∷ xs) n w h =
-    let low : 48 ≤ x = w.digits.0.0 in
+signed_above : (ds : List ℕ) (n : ℕ) → Numeric ds → numeral 32767 ds ≡ Some n → get_or ds 0 0 ≢ 45 → signed_in ds ≡ Some (pos n)
+signed_above [] n w v h = absurd (omega (arith, w.some))
+signed_above (x ∷ xs) n w v h =
     let t : eqb x 45 ≡ false = grind (arith, nat_tests) in
-    rw (t, w.value 32767 h)
+    rw (t, v)
 
 signed_back : (z : ℤ) → SFits w16 z → signed_in (signed_decimal z) ≡ Some z
-signed_back (pos n) f = signed_above (decimal n) n (decimal_writes n (omega (arith, f.sfits))) (omega (arith, f.sfits))
+signed_back (pos n) f =
+    let small : n < 2 ^ 64 = omega (arith, f.sfits) in
+    signed_above (decimal n) n (decimal_numeric n small) (numeral_decimal 32767 n (omega (arith, f.sfits)) small) (no_minus n small)
 signed_back (negsuc n) f =
-    let w : Writes (suc n) (decimal (suc n)) = decimal_writes (suc n) (omega (arith, f.sfits)) in
-    let v : numeral 32768 (decimal (suc n)) ≡ Some (suc n) = numeral_some 32768 (decimal (suc n)) w.some ∙ w.value 32768 (omega (arith, f.sfits)) in
+    let v : numeral 32768 (decimal (suc n)) ≡ Some (suc n) = numeral_decimal 32768 (suc n) (omega (arith, f.sfits)) (omega (arith, f.sfits)) in
     rw v
-
-digits_numeral : (ds : List ℕ) → All (λ x. (48 ≤ x) × (x ≤ 57)) ds → All NumeralByte ds
-digits_numeral ds h = All-weaker (λ x. (48 ≤ x) × (x ≤ 57)) NumeralByte (λ x p. (omega (arith, p.0), p.1)) ds h
-
--- a word of a number
-record Numeric (w : List ℕ) : Type 0 where
-  bytes : All NumeralByte w
-  some : 0 < length w
-
-decimal_numeric : (n : ℕ) → n < 2 ^ 64 → Numeric (decimal n)
-decimal_numeric n h = record { bytes = digits_numeral (decimal n) (decimal_writes n h).digits; some = (decimal_writes n h).some }
 
 signed_numeric : (z : ℤ) → SFits w16 z → Numeric (signed_decimal z)
 signed_numeric (pos n) f = decimal_numeric n (omega (arith, f.sfits))
@@ -189,8 +138,7 @@ screw_undelimited = ((refl, refl, refl), ((refl, refl, refl), ((refl, refl, refl
 screw_statement_lem : (s : ℕ) → s < 65536 → statement_in (codes "screw " ++ decimal s) ≡ Ok (Some (Numbered s))
 screw_statement_lem s h =
     let n : Numeric (decimal s) = decimal_numeric s (omega arith) in
-    let w : Writes s (decimal s) = decimal_writes s (omega arith) in
-    let v : numeral 65535 (decimal s) ≡ Some s = numeral_some 65535 (decimal s) w.some ∙ w.value 65535 (omega arith) in
+    let v : numeral 65535 (decimal s) ≡ Some s = numeral_decimal 65535 s (omega arith) (omega arith) in
     pair_statement_lem (codes "screw") (decimal s) (omega arith) n.some screw_undelimited (undelimited _ n.bytes) ∙ rw v
 
 screw_line : (s : ℕ) (rest : List ℕ) → s < 65536 → lines_of (codes "screw " ++ ((decimal s ++ codes "\n") ++ rest)) ≡ (codes "screw " ++ decimal s) ∷ lines_of rest

@@ -1,5 +1,6 @@
 -- Lines, words and numbers in a list of bytes.
 use Rattle.std.specs.Prelude.{◌≡◌, ◌≢◌, ℕ, ◌+◌, ◌-◌, ◌*◌, Bool, cond, ◌&&◌, ◌||◌, ◌⊎◌, List, [], ◌∷◌, ℤ, pos, neg_ℤ, Some, None, Ok, Err, Option, Result, ◌==◌, nat_eq, nat_le, slice_index}
+use Rattle.std.specs.Option.{option_map, option_and_then}
 use Rattle.std.specs.Str.{IsUtf8}
 
 -- the bytes before the first that passes a test, or all
@@ -41,32 +42,20 @@ digit x = nat_le 48 x && nat_le x 57
 abbrev pub digit_after : ℕ → ℕ → ℕ → Option ℕ
 digit_after limit n x = cond (digit x && nat_le (n * 10 + (x - 48)) limit) (Some (n * 10 + (x - 48))) None
 
-abbrev pub onward : Option ℕ → (ℕ → Option ℕ) → Option ℕ
-onward None next = None
-onward (Some n) next = next n
-
 -- digits after those that make n
 abbrev pub read_on : ℕ → ℕ → List ℕ → Option ℕ
 read_on limit n [] = Some n
-read_on limit n (x ∷ xs) = onward (digit_after limit n x) (λ m. read_on limit m xs)
+read_on limit n (x ∷ xs) = option_and_then (λ m. read_on limit m xs) (digit_after limit n x)
 
 -- a decimal number of at most limit
 abbrev pub numeral : ℕ → List ℕ → Option ℕ
 numeral limit [] = None
 numeral limit (x ∷ xs) = read_on limit 0 (x ∷ xs)
 
-abbrev pub above : Option ℕ → Option ℤ
-above None = None
-above (Some n) = Some (pos n)
-
-abbrev pub below : Option ℕ → Option ℤ
-below None = None
-below (Some n) = Some (neg_ℤ (pos n))
-
 -- a number of 16 bits, with a minus in front where it is below 0
 abbrev pub signed_in : List ℕ → Option ℤ
 signed_in [] = None
-signed_in (x ∷ xs) = cond (x == 45) (below (numeral 32768 xs)) (above (numeral 32767 (x ∷ xs)))
+signed_in (x ∷ xs) = cond (x == 45) (option_map (λ n. neg_ℤ (pos n)) (numeral 32768 xs)) (option_map pos (numeral 32767 (x ∷ xs)))
 
 -- what `parse` gives of the bytes, or none where they begin with a plus, are no text or no number
 abbrev pub IsParsed : {T E : Type 0} → (List ℕ → Result T E → Type 0) → List ℕ → Option T → Type 0
