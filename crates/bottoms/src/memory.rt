@@ -24,6 +24,7 @@ pub fn memory_count(len: usize, wished: usize) -> usize
 }
 
 /// Reads the cell `p` of a buffer, as memory over it with cells of the wished size would.
+// Kept beside `read_flash`: each is promised over a slice, and what they have in common is `admit`.
 pub fn read_memory(buf: &[u8], wished: usize, p: usize, out: &mut [u8]) -> Result<(), StoreFault>
     ensures { ReadBy (memory (cell_size wished) buf.now) p out.old result out.new }
 {

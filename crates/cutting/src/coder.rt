@@ -16,6 +16,7 @@ fn sum_marked(part: &mut [u8], block: &[u8], marks: &[bool])
     ensures { part.new ≡ coded (length part.old) marks.now (cut (length marks.now) (length part.old) block.now) }
 {
     part.fill(0);
+    // Kept: the rest is cut as the marks go on, since `chunks` takes no size of zero, and a part may have no byte.
     let mut rest = block;
     for marked in marks {
         let (fragment, more) = rest.split_at(part.len().min(rest.len()));

@@ -19,7 +19,7 @@ pub const MOST_SPARES: usize = 16;
 pub struct Spares<S> {
     below: S,
     held: usize,
-    // Kept: a small table held by value, and `held` as what was asked for.
+    // Kept: an array of fixed size, since a layer takes no heap; `held` is what was asked for, as `new` promises.
     table: [Spare; MOST_SPARES],
 }
 
@@ -115,6 +115,7 @@ impl<S: Store> Store for Spares<S> {
         self.below.size()
     }
 
+    // Kept: the test of the place, as in `Window`, since `place_of` is asked for cells that are there.
     #[tactic(auto, using(crate::specs::Spared::place_below))]
     fn read(&self, p: usize, out: &mut [u8]) -> Result<(), StoreFault> {
         if p >= self.count() {

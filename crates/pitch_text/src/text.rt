@@ -96,6 +96,7 @@ enum Reading {
     Ready(Table),
 }
 
+// Kept: a match and no conversion of `Axis`, which would want an error of its own where `What` is not known.
 fn axis_statement(word: &[u8]) -> Result<Statement, What>
     ensures { result ≡ axis_statement word.now }
 {
