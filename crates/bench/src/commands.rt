@@ -31,13 +31,13 @@ fn row(rule: &str, m: &str, n: &str, keys: &mut Keys<'_>) -> Result<Command, Wro
     let rule: RuleName = rule.parse()?;
     let m: u16 = number(m)?;
     let algo = keys.take("algo", number)?;
-    let room = keys.take("room", size)?;
+    let room = keys.take("room", number)?;
     Ok(Command::Row(RowAsked {
         rule,
         algo: algo.unwrap_or(rule.algo()),
         m,
         n: number(n)?,
-        room: room.unwrap_or(usize::from(m)),
+        room: room.unwrap_or(u32::from(m)),
     }))
 }
 
@@ -71,19 +71,29 @@ fn state(index: &str) -> Result<Command, Wrong> {
     Ok(Command::State)
 }
 
-// The command that the words make. It takes the keys that it knows.
-fn command_of(heap: Global, words: &[&str], keys: &mut Keys<'_>) -> Result<Command, Wrong> {
+// The command that the words of a line without keys make.
+fn keyless(heap: Global, words: &[&str]) -> Result<Command, Wrong> {
     match words {
         ["serves", rule, algo, m] => serves(rule, algo, m),
-        ["row", rule, m, n] => row(rule, m, n, keys),
         ["load", text] => Ok(Command::Load(block(heap, text)?)),
         ["store", text] => Ok(Command::Store(Plan::read(heap, text)?)),
         ["read", p, n] => read(p, n),
         ["write", p, text] => write(heap, p, text),
-        ["receiver"] => receiver(heap, keys),
         ["state", index] => state(index),
         ["end"] => Ok(Command::End),
         _ => Err(Wrong),
+    }
+}
+
+// The command that the words make. It takes the keys that it knows; where it knows none, they are refused before anything is made of the words.
+fn command_of(heap: Global, words: &[&str], keys: &mut Keys<'_>) -> Result<Command, Wrong> {
+    match words {
+        ["row", rule, m, n] => row(rule, m, n, keys),
+        ["receiver"] => receiver(heap, keys),
+        _ => {
+            keys.none_left()?;
+            keyless(heap, words)
+        }
     }
 }
 

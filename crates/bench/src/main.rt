@@ -15,17 +15,26 @@ use script::Wrong;
 use std::io;
 use std::io::{BufRead, BufReader};
 
-fn run(rt: &HostRuntime) -> io::Result<()> {
-    let heap = rt.alloc();
-    let mut bench = Bench::new(heap);
-    for line in BufReader::new(heap, rt.stdin())?.split(heap, b'\n') {
-        match bench.line(line?.as_slice()) {
+// Kept: one buffer for all lines and no iterator of lines, so that only a line longer than all before it wants memory.
+fn serve(rt: &HostRuntime, bench: &mut Bench) -> io::Result<()> {
+    let mut input = BufReader::new(rt.alloc(), rt.stdin())?;
+    let mut line = Vec::new(rt.alloc());
+    for _ in 0..u64::MAX {
+        line.clear();
+        if input.read_until(b'\n', &mut line)? == 0 {
+            break;
+        }
+        match bench.line(line.as_slice()) {
             Ok(None) => {}
             Ok(Some(answer)) => rt.println(answer)?,
             Err(Wrong) => rt.println("error")?,
         }
     }
     Ok(())
+}
+
+fn run(rt: &HostRuntime) -> io::Result<()> {
+    serve(rt, &mut Bench::new(rt.alloc()))
 }
 
 fn main(rt: HostRuntime) -> io::Result<()> {

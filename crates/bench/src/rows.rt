@@ -12,13 +12,13 @@ pub struct RowAsked {
     pub algo: u8,
     pub m: u16,
     pub n: u16,
-    pub room: usize,
+    pub room: u32,
 }
 
 impl RowAsked {
     /// The answer to `row`.
     pub(crate) fn answer(self, heap: Global) -> Result<String, AllocError> {
-        let mut marks: Vec<bool> = patterned(heap, self.room)?;
+        let mut marks: Vec<bool> = patterned(heap, self.room as usize)?;
         let filled = self
             .rule
             .fill(self.algo, self.m, self.n, marks.as_mut_slice());

@@ -9,6 +9,9 @@ use std::num::TryFromIntError;
 // The longest buffer or ramp of a script.
 const LONGEST_BUFFER: usize = 1048576;
 
+// The keys that some command takes.
+const KEYS: [&str; 5] = ["algo", "model", "room", "rule", "store"];
+
 /// A line that is no command, or one for which there is not enough memory. Either is answered `error`, so no more is told.
 #[derive(Clone, Copy, PartialEq, Eq, Debug)]
 pub struct Wrong;
@@ -24,8 +27,11 @@ impl<E: Error + Drop> From<E> for Wrong {
 pub struct Keys<'a>(BTreeMap<&'a str, &'a str>);
 
 impl<'a> Keys<'a> {
-    // A key that stands already is refused.
+    // A key that no command takes, or that stands already, is refused. So a line has a few keys at most, however long it is.
     fn put(&mut self, key: &'a str, value: &'a str) -> Result<(), Wrong> {
+        if !KEYS.contains(&key) {
+            return Err(Wrong);
+        }
         match self.0.insert(key, value)? {
             None => Ok(()),
             Some(_) => Err(Wrong),
@@ -104,7 +110,9 @@ pub(crate) fn length(text: &str) -> Result<usize, Wrong>
 }
 
 /// A number of four bytes, as a place, a count or a length.
-pub(crate) fn size(text: &str) -> Result<usize, Wrong> {
+pub(crate) fn size(text: &str) -> Result<usize, Wrong>
+    ensures { IfOk result (λ n. n ≤ 4294967295) }
+{
     Ok(number::<u32>(text)? as usize)
 }
 

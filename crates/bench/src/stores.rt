@@ -19,6 +19,9 @@ type Layered<S> = Either<S, Either<Window<S>, Spares<S>>>;
 /// A bottom with at most two layers.
 pub type Pile = Layered<Layered<Bottom>>;
 
+// The most fields of a store: three of each layer, and four of a bottom. One more is refused, so what follows it need not be cut.
+const MOST_FIELDS: usize = 10;
+
 /// A layer by its numbers.
 #[derive(Clone, Copy)]
 enum Layer {
@@ -123,10 +126,10 @@ impl BottomPlan {
     fn build(self, heap: Global) -> Result<Bottom, AllocError> {
         let mut buf = vec![in heap; self.fill; self.length]?;
         match self.kind {
-            Kind::Memory { wished } => Ok(Left(Memory::new(buf, wished))),
+            Kind::Memory { wished } => Ok(Left(Memory::over(buf, wished))),
             Kind::Flash { erases } => {
                 set_erases(buf.as_mut_slice(), erases.as_slice());
-                Ok(Right(Flash::new(buf)))
+                Ok(Right(Flash::over(buf)))
             }
         }
     }
@@ -135,7 +138,7 @@ impl BottomPlan {
 impl Plan {
     /// Reads a store: at most two layers, from the topmost down, and a bottom.
     pub(crate) fn read(heap: Global, text: &str) -> Result<Plan, Wrong> {
-        let fields: Vec<&str> = text.split(':').collect(heap)?;
+        let fields: Vec<&str> = text.splitn(MOST_FIELDS + 1, ':').collect(heap)?;
         let (upper, below) = Layer::read(fields.as_slice())?;
         let (lower, below) = Layer::read(below)?;
         Ok(Plan {

@@ -1,9 +1,7 @@
 -- What a write makes of a page, and of the flash around it. Assumes nothing.
-use Rattle.std.proofs.Common.{◌≡◌, ℕ, ◌+◌, ◌-◌, ◌*◌, ◌/◌, ◌%◌, ◌^◌, ◌<◌, ◌≤◌, true, cond, ltb, List, [], ◌++◌, length, take, drop, replicate, Ok, Err, sym, refl, ap, ◌∙◌, subst, arith, rules}
+use Rattle.std.proofs.Common.{◌≡◌, ℕ, ◌+◌, ◌-◌, ◌*◌, ◌/◌, ◌%◌, ◌^◌, ◌<◌, ◌≤◌, true, cond, ltb, List, ◌++◌, length, take, drop, replicate, Ok, Err, sym, refl, ap, ◌∙◌, subst, arith, rules}
 use native.Mathlib.Nat.{div-div-eq-div-mul}
-use borrow.Rule.Slice.PartMut.{put_mid}
-use Rattle.std.proofs.Math.Seq.{take-append-add}
-use Rattle.std.proofs.lemmas.List.{places, take_at, drop_at, drop_all, append-nil, append_assoc, length-drop, length-append}
+use Rattle.std.proofs.lemmas.List.{places, take_at, drop_at, same_lists, take_rest, drop-replicate, length-replicate, length-append}
 use Rattle.std.proofs.lemmas.Bool.{cond-true}
 use Rattle.std.proofs.lemmas.Bool.Decides.{nat_tests}
 use Rattle.cells.specs.declared.fault.StoreFault.TheVariants.{Worn}
@@ -12,15 +10,6 @@ use Rattle.cells.proofs.Answered.{answer_at, told_each}
 use Rattle.bottoms.specs.Parts.{whole_parts, with_part, put, part_room}
 use Rattle.bottoms.specs.Pages.{erases_left, least_first, page_at, page_of, written_page, takes_after, flash, flash_buffer, PageWrite, FlashLaws}
 use Rattle.bottoms.proofs.Partly.{put_part, length_with, part_here, part_there}
-
--- a page of filler, once its cell and its erases left were put into it
-pub page_made : (cell tail : List ℕ) → length cell ≡ 239 → length tail ≡ 4 → put_mid 252 4 (cell ++ replicate 17 255) tail ≡ cell ++ (replicate 13 255 ++ tail)
-page_made cell tail a b =
-    let all = cell ++ replicate 17 255 in
-    let at : length cell + 13 ≡ 252 = omega arith in
-    let front : take 252 all ≡ cell ++ replicate 13 255 = ap (λ n. take n all) (sym at) ∙ take-append-add cell (replicate 17 255) 13 in
-    let none : drop 4 (drop 252 all) ≡ [] = drop_all 4 (drop 252 all) (simp (length-drop, length-append) (omega arith)) in
-    ap (λ xs. xs ++ (tail ++ drop 4 (drop 252 all))) front ∙ ap (λ ys. (cell ++ replicate 13 255) ++ (tail ++ ys)) none ∙ simp (append-nil, append_assoc)
 
 -- four bytes, least first, are the number again
 four_is : (n : ℕ) → n < 2 ^ 32 → n % 256 + n / 256 % 256 * 256 + n / 65536 % 256 * 65536 + n / 16777216 % 256 * 16777216 ≡ n
@@ -98,8 +87,22 @@ flash_laws = record {
   length = law_length;
 }
 
+-- bytes that are put, and then others behind them
+pub put_on : (buf xs ys : List ℕ) (at : ℕ) → at + (length xs + length ys) ≤ length buf → put (put buf at xs) (at + length xs) ys ≡ put buf at (xs ++ ys)
+put_on buf xs ys at room = same_lists _ _ (search (rules, places)) (λ k d h. grind (arith, places, room))
+
+-- a page that is put in three parts
+pub page_parts : (buf bytes tail : List ℕ) (at : ℕ) → at + 256 ≤ length buf → length bytes ≤ 239 → length tail ≡ 17 → put (put (put buf at bytes) (at + length bytes) (take (239 - length bytes) (drop (length bytes) (replicate 239 0)))) (at + 239) tail ≡ put buf at (padded 239 bytes ++ tail)
+page_parts buf bytes tail at fits short long =
+    let none : length {A = ℕ} (replicate (239 - length bytes) 0) ≡ 239 - length bytes = length-replicate (239 - length bytes) 0 in
+    let zeros : take {A = ℕ} (239 - length bytes) (drop (length bytes) (replicate 239 0)) ≡ replicate (239 - length bytes) 0 = take_rest (replicate 239 0) (length bytes) ∙ drop-replicate (length bytes) 239 0 in
+    let front : length (padded 239 bytes) ≡ 239 = length-append bytes (replicate (239 - length bytes) 0) ∙ omega (arith, none, short) in
+    let cell : put (put buf at bytes) (at + length bytes) (take (239 - length bytes) (drop (length bytes) (replicate 239 0))) ≡ put buf at (padded 239 bytes) = ap (put (put buf at bytes) (at + length bytes)) zeros ∙ put_on buf bytes (replicate (239 - length bytes) 0) at (omega (arith, none, fits, short)) in
+    let end : at + length (padded 239 bytes) ≡ at + 239 = ap (λ n. at + n) front in
+    ap (λ b. put b (at + 239) tail) cell ∙ (ap (λ n. put (put buf at (padded 239 bytes)) n tail) (sym end) ∙ put_on buf (padded 239 bytes) tail at (omega (arith, front, long, fits)))
+
 -- what is told of an erase that was there to be spent
-spent : (left p x : ℕ) → Ok x ≡ cond (ltb 0 left) (Ok (left - 1)) (Err (Worn p)) → (ltb 0 left ≡ true) × (x ≡ left - 1)
+pub spent : (left p x : ℕ) → Ok x ≡ cond (ltb 0 left) (Ok (left - 1)) (Err (Worn p)) → (ltb 0 left ≡ true) × (x ≡ left - 1)
 spent left p x e = grind (arith, nat_tests)
 
 -- a page that is put where it lies, with an erase that was spent on it

@@ -23,9 +23,13 @@ erases_left page = slice_index page 252 + slice_index page 253 * 256 + slice_ind
 abbrev pub least_first : ℕ → List ℕ
 least_first n = (n % 256) ∷ (n / 256 % 256) ∷ (n / 65536 % 256) ∷ (n / 16777216 % 256) ∷ []
 
--- a page with these bytes in its cell and so many erases left: bytes 0 to 238 are the cell, 239 to 251 are 0xFF
+-- what follows the cell in a page with so many erases left: bytes 239 to 251 are 0xFF
+abbrev pub page_end : ℕ → List ℕ
+page_end left = replicate filler 255 ++ least_first left
+
+-- a page with these bytes in its cell and so many erases left: bytes 0 to 238 are the cell, and then comes its end
 abbrev pub page_of : List ℕ → ℕ → List ℕ
-page_of bytes left = padded flash_cell bytes ++ (replicate filler 255 ++ least_first left)
+page_of bytes left = padded flash_cell bytes ++ page_end left
 
 -- a page once the bytes were written to it: one erase is spent
 abbrev pub written_page : List ℕ → List ℕ → List ℕ

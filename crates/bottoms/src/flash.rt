@@ -4,10 +4,10 @@ ghost use Rattle.std.specs.Simd.{first_chunks};
 ghost use Rattle.cells.specs.declared.fault.StoreFault.TheVariants.{Worn};
 ghost use Rattle.cells.specs.Calls.{ReadBy, WroteBy};
 ghost use Rattle.bottoms.specs.Parts.{whole_parts};
-ghost use Rattle.bottoms.specs.Pages.{page_bytes, flash_cell, erases_left, page_of, page_at, flash, flash_buffer, flash_bounded, FlashLaws};
+ghost use Rattle.bottoms.specs.Pages.{page_bytes, flash_cell, erases_left, page_end, page_at, flash, flash_buffer, flash_bounded, FlashLaws};
 
 use crate::buffer::Buffer;
-use crate::parts::{padded, whole_parts};
+use crate::parts::whole_parts;
 use cells::fault::StoreFault;
 use cells::store::{Store, admit};
 
@@ -54,15 +54,13 @@ fn spend(left: u32, p: usize) -> Result<u32, StoreFault>
     left.checked_sub(1).ok_or(StoreFault::Worn(p))
 }
 
-// A page with these bytes in its cell and so many erases left.
-fn page_of(bytes: &[u8], left: u32) -> Page
-    requires short { length bytes.now ≤ flash_cell }
-    ensures { result ≡ page_of bytes.now left }
+// What follows the cell in a page with so many erases left.
+fn page_end(left: u32) -> [u8; FLASH_PAGE - FLASH_CELL]
+    ensures { result ≡ page_end left }
 {
-    let mut page = [0xff; FLASH_PAGE];
-    page[..FLASH_CELL].copy_from_slice(&padded::<FLASH_CELL>(bytes));
-    page[ERASES_LEFT..].copy_from_slice(&left.to_le_bytes());
-    page
+    let mut end = [0xff; FLASH_PAGE - FLASH_CELL];
+    end[ERASES_LEFT - FLASH_CELL..].copy_from_slice(&left.to_le_bytes());
+    end
 }
 
 /// How many cells a buffer of `len` bytes has as flash: its whole pages, at most 512.
@@ -97,12 +95,24 @@ pub struct Flash<B> {
     buf: B,
 }
 
-impl<B: Buffer> Flash<B> {
-    /// Takes the buffer as it is: the erases left are what its pages say.
-    pub fn new(buf: B) -> Flash<B>
-        ensures { result.buf ≡ buf }
+impl<'a> Flash<&'a mut [u8]> {
+    /// Takes a lent buffer as it is: the erases left are what its pages say. Whatever lends its bytes as a slice will do, and nothing of it but these
+    /// bytes is touched.
+    pub fn new(buf: &'a mut [u8]) -> Flash<&'a mut [u8]>
+        ensures bytes { result.buf.now ≡ buf.old }
+        ensures lender { result.buf.ghost_name ≡ buf.entry.ghost_name }
+        ensures buffer { result.buf ≡ buf.entry }
     {
         Flash { buf }
+    }
+}
+
+impl<B: Buffer> Flash<B> {
+    /// Takes the buffer of any holder, its own too, as it is: the erases left are what its pages say.
+    pub fn over(buf: B) -> Flash<B>
+        ensures { result.buf ≡ buf }
+    {
+        Self { buf }
     }
 
     /// Hands the buffer back.
@@ -122,7 +132,12 @@ impl<B: Buffer> Flash<B> {
         ensures holder { B.name self.new.buf ≡ B.name self.old.buf }
     {
         let left = spend(erases_left(page(self.buf.bytes(), p)), p)?;
-        self.buf.put(p * FLASH_PAGE, &page_of(bytes, left));
+        // Kept: three parts and no page made beside the buffer, which would be copied twice.
+        let at = p * FLASH_PAGE;
+        self.buf.put(at, bytes);
+        self.buf
+            .put(at + bytes.len(), &[0; FLASH_CELL][bytes.len()..]);
+        self.buf.put(at + FLASH_CELL, &page_end(left));
         Ok(())
     }
 }

@@ -41,13 +41,26 @@ pub struct Memory<B> {
     wished: usize,
 }
 
-impl<B: Buffer> Memory<B> {
-    /// Takes the buffer as it is, with cells of the wished size, which is brought into 1 to 239.
-    pub fn new(buf: B, wished: usize) -> Memory<B>
-        ensures buffer { result.buf ≡ buf }
+impl<'a> Memory<&'a mut [u8]> {
+    /// Takes a lent buffer as it is, with cells of the wished size, which is brought into 1 to 239. Whatever lends its bytes as a slice will do, and
+    /// nothing of it but these bytes is touched.
+    pub fn new(buf: &'a mut [u8], wished: usize) -> Memory<&'a mut [u8]>
+        ensures bytes { result.buf.now ≡ buf.old }
+        ensures lender { result.buf.ghost_name ≡ buf.entry.ghost_name }
+        ensures buffer { result.buf ≡ buf.entry }
         ensures wished { result.wished ≡ wished }
     {
         Memory { buf, wished }
+    }
+}
+
+impl<B: Buffer> Memory<B> {
+    /// Takes the buffer of any holder, its own too, as it is, with cells of the wished size, which is brought into 1 to 239.
+    pub fn over(buf: B, wished: usize) -> Memory<B>
+        ensures buffer { result.buf ≡ buf }
+        ensures wished { result.wished ≡ wished }
+    {
+        Self { buf, wished }
     }
 
     /// Hands the buffer back.

@@ -1,5 +1,6 @@
-// Tests of stores, in piles of up to two layers.
+// Tests of stores, in piles of up to two layers, and what lenders of buffers learn.
 #![tactic(auto)]
 
+pub mod lenders;
 #[cfg(test)]
 mod tests;

@@ -4,6 +4,7 @@ ghost use Rattle.cells.specs.Calls.{WroteBy};
 ghost use Rattle.bottoms.specs.Memories.{cell_size, memory, memory_buffer};
 ghost use Rattle.bottoms.specs.Pages.{flash, flash_buffer};
 
+use crate::lenders::{read_then_write, write_vec_flash, write_vec_memory};
 use bottoms::flash::{ERASES_LEFT, FLASH_PAGE, Flash};
 use bottoms::memory::Memory;
 use cells::fault::StoreFault;
@@ -61,7 +62,7 @@ fn parts(rt: &impl Abort, buf: &[u8], parts: &[Part<'_>]) {
 #[test]
 fn sizes_of_memory(rt: HostRuntime) {
     let mut buf = [7; 600];
-    let bytes = Memory::new(&mut buf[..], 0);
+    let bytes = Memory::new(&mut buf, 0);
     assert_eq!(rt; (bytes.count(), bytes.size()), (512, 1));
     let large = Memory::new(bytes.end(), 1000);
     assert_eq!(rt; (large.count(), large.size()), (2, 239));
@@ -84,7 +85,7 @@ fn sizes_of_memory(rt: HostRuntime) {
 fn one_page_of_flash(rt: HostRuntime) {
     let mut buf = [0x11; 300];
     buf[ERASES_LEFT..FLASH_PAGE].copy_from_slice(&257u32.to_le_bytes());
-    let mut flash = Flash::new(&mut buf[..]);
+    let mut flash = Flash::new(&mut buf);
     assert_eq!(rt; (flash.count(), flash.size()), (1, 239));
     assert_eq!(rt; flash.write(0, &[1, 2, 3]), Ok(()));
     assert_eq!(rt; flash.write(0, &[]), Ok(()));
@@ -260,8 +261,22 @@ fn lent_slices(rt: HostRuntime) {
 }
 
 #[test]
+fn lent_vecs(rt: HostRuntime) -> Result<(), AllocError> {
+    let mut buf = vec![in rt.alloc(); 7; 9]?;
+    assert_eq!(rt; write_vec_memory(&mut buf, 4, 1, &[1, 2]), Ok(()));
+    let mut out = [0; 2];
+    assert_eq!(rt; read_then_write(buf.as_mut_slice(), 4, 1, &mut out), Ok(()));
+    assert_eq!(rt; out, [1, 2]);
+    parts(&rt, buf.as_slice(), &[(0, &[7, 7, 7, 7, 1, 2, 0, 0, 7])]);
+    let mut page = vec![in rt.alloc(); 1; 256]?;
+    assert_eq!(rt; write_vec_flash(&mut page, 0, &[8, 9]), Ok(()));
+    parts(&rt, page.as_slice(), &[(0, &[8, 9, 0]), (238, &[0, 0xff])]);
+    Ok(())
+}
+
+#[test]
 fn memory_of_its_own(rt: HostRuntime) -> Result<(), AllocError> {
-    let mut memory = Memory::new(vec![in rt.alloc(); 7; 20]?, 6);
+    let mut memory = Memory::over(vec![in rt.alloc(); 7; 20]?, 6);
     assert_eq!(rt; (memory.count(), memory.size()), (3, 6));
     writes(
         &rt,
@@ -281,7 +296,7 @@ fn memory_of_its_own(rt: HostRuntime) -> Result<(), AllocError> {
 fn flash_of_its_own(rt: HostRuntime) -> Result<(), AllocError> {
     let mut buf = vec![in rt.alloc(); 0; 600]?;
     one_erase_each(buf.as_mut_slice());
-    let mut flash = Flash::new(buf);
+    let mut flash = Flash::over(buf);
     writes(
         &rt,
         &mut flash,
@@ -306,7 +321,7 @@ fn flash_of_its_own(rt: HostRuntime) -> Result<(), AllocError> {
 
 #[test]
 fn either_bottom(rt: HostRuntime) {
-    let mut memory: Bottom = Either::Left(Memory::new([7; 12], 6));
+    let mut memory: Bottom = Either::Left(Memory::over([7; 12], 6));
     assert_eq!(rt; (memory.count(), memory.size()), (2, 6));
     writes(
         &rt,
@@ -320,7 +335,7 @@ fn either_bottom(rt: HostRuntime) {
     reads(&rt, &memory, &[[7, 7], [3, 4]]);
     let mut page = [0; 256];
     one_erase_each(&mut page);
-    let mut flash: Bottom = Either::Right(Flash::new(page));
+    let mut flash: Bottom = Either::Right(Flash::over(page));
     assert_eq!(rt; (flash.count(), flash.size()), (1, 239));
     writes(
         &rt,

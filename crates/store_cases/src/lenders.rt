@@ -1,0 +1,42 @@
+// What the lender of a buffer learns once the bottom over it is let go.
+ghost use Rattle.std.specs.Prelude.{◌≡◌, is_ok, if◌then◌else◌, vec_len, vec_capacity};
+ghost use Rattle.bottoms.specs.Memories.{cell_size, memory_buffer};
+
+use bottoms::flash::Flash;
+use bottoms::memory::Memory;
+use cells::fault::StoreFault;
+use cells::store::Store;
+
+/// Writes to a `Vec` that is lent as memory: its length and its room stay.
+pub fn write_vec_memory(
+    buf: &mut Vec<u8>,
+    wished: usize,
+    p: usize,
+    bytes: &[u8],
+) -> Result<(), StoreFault>
+    ensures length { vec_len buf.new ≡ vec_len buf.old }
+    ensures room { vec_capacity buf.new ≡ vec_capacity buf.old }
+{
+    Memory::new(buf, wished).write(p, bytes)
+}
+
+/// Writes to a `Vec` that is lent as flash: its length and its room stay.
+pub fn write_vec_flash(buf: &mut Vec<u8>, p: usize, bytes: &[u8]) -> Result<(), StoreFault>
+    ensures length { vec_len buf.new ≡ vec_len buf.old }
+    ensures room { vec_capacity buf.new ≡ vec_capacity buf.old }
+{
+    Flash::new(buf).write(p, bytes)
+}
+
+/// Reads a cell of a slice that is lent as memory, and then writes to it, lending it once more.
+pub fn read_then_write(
+    buf: &mut [u8],
+    wished: usize,
+    p: usize,
+    out: &mut [u8],
+) -> Result<(), StoreFault>
+    ensures { buf.new ≡ (if is_ok result then memory_buffer (cell_size wished) buf.old p out.new else buf.old) }
+{
+    Memory::new(buf, wished).read(p, out)?;
+    Memory::new(buf, wished).write(p, out)
+}
