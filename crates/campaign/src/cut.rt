@@ -1,5 +1,6 @@
 // A block cut into fragments, and its fragments as lines.
 use crate::fault::Fault;
+use coding::{LARGEST_FRAGMENT, MOST_FRAGMENTS};
 use cutting::coder::code_into;
 use cutting::layout::{Layout, layout_of};
 use rules::line_rule::LineRule;
@@ -25,14 +26,15 @@ impl<'a> fmt::Display for Hex<'a> {
 pub struct Cut {
     block: Vec<u8>,
     layout: Layout,
-    row: Vec<bool>,
-    fragment: Vec<u8>,
+    size: u8,
+    // Kept: arrays, since lists of the right length would be asked for once the block is packed, and memory could run out there.
+    row: [bool; MOST_FRAGMENTS as usize],
+    fragment: [u8; LARGEST_FRAGMENT as usize],
 }
 
 impl Cut {
     /// Cuts the block into fragments of `size` bytes, or says why it cannot be.
     pub(crate) fn plan(rt: &HostRuntime, block: Vec<u8>, size: u8) -> Result<Cut, Fault> {
-        let heap = rt.alloc();
         let length = block.len();
         let layout = u32::try_from(length)
             .ok()
@@ -42,8 +44,6 @@ impl Cut {
         if !Published.serves(Published::ALGO, m) {
             return Err(Fault::Small { fragments: m, size });
         }
-        let row = vec![in heap; false; usize::from(m)]?;
-        let fragment = vec![in heap; 0; usize::from(size)]?;
         let padding = layout.padding;
         println!(rt;
             "cut: {m} fragments of {size} bytes, the last with {padding} bytes of filler"
@@ -51,8 +51,9 @@ impl Cut {
         Ok(Cut {
             block,
             layout,
-            row,
-            fragment,
+            size,
+            row: [false; MOST_FRAGMENTS as usize],
+            fragment: [0; LARGEST_FRAGMENT as usize],
         })
     }
 
@@ -64,19 +65,20 @@ impl Cut {
     /// Prints fragment `n`.
     pub(crate) fn print(&mut self, rt: &HostRuntime, n: u16) -> Result<(), Fault> {
         let m = self.fragments();
-        let size = self.fragment.len();
-        Published.fill(Published::ALGO, m, n, self.row.as_mut_slice())?;
+        let marks = usize::from(m).min(self.row.len());
+        let size = usize::from(self.size).min(self.fragment.len());
+        Published.fill(Published::ALGO, m, n, &mut self.row)?;
         code_into(
             self.block.as_slice(),
             size,
-            self.row.as_slice(),
-            self.fragment.as_mut_slice(),
+            &self.row[..marks],
+            &mut self.fragment,
         )?;
-        let hex = Hex(self.fragment.as_slice());
+        let hex = Hex(&self.fragment[..size]);
         if n <= m {
             println!(rt; "{n:>5}  {hex}")?;
         } else {
-            let places = Places(self.row.as_slice());
+            let places = Places(&self.row[..marks]);
             println!(rt; "{n:>5}  {hex} = sum of{places}")?;
         }
         Ok(())
