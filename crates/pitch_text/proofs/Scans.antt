@@ -1,10 +1,8 @@
 -- Lines, words and numbers, a byte at a time. Assumes nothing.
-use Rattle.std.proofs.Common.{◌≡◌, ℕ, suc, ◌+◌, Bool, true, false, cond, not, eqb, ltb, List, [], ◌∷◌, length, take, drop, filter, Some, None, Option, unwrap_or, sym, refl, ap, ◌∙◌, arith}
-use Rattle.std.specs.List.{before_first, position_or_len, slice_split, onto_first}
-use Rattle.std.specs.Iterator.{AlwaysYields}
-use Rattle.std.specs.Iterator.Runs.{Run, EachRunFrom}
-use Rattle.std.proofs.lemmas.Iterator.{YieldsList}
+use Rattle.std.proofs.Common.{◌≡◌, ℕ, suc, ◌+◌, ◌<◌, ◌≤◌, Bool, true, false, cond, not, eqb, ltb, List, [], ◌∷◌, length, take, drop, Some, None, Option, unwrap_or, refl, ap, ◌∙◌, arith}
+use Rattle.std.specs.List.{before_first, position_or_len}
 use Rattle.std.proofs.lemmas.Bool.Decides.{nat_tests}
+use Rattle.std.proofs.lemmas.List.{drop_all, length-drop}
 use Rattle.std.proofs.lemmas.List.Sums.{prefix_len-le-length}
 use Rattle.pitch_text.specs.Words.{up_to, onto, lines_of, words_of, joins, blank}
 
@@ -55,68 +53,53 @@ pub word_first : (x : ℕ) (xs : List ℕ) → WordFirst x xs
 word_first x [] = refl
 word_first x (y ∷ ys) = word_step x y ys (blank y) refl (word_first y ys)
 
--- `words_of` are the parts between blanks that are not empty
-abbrev pub written : List ℕ → Bool
-written w = not (eqb (length w) 0)
+-- the bytes from the first word on, and the words
+abbrev solid : ℕ → Bool
+solid x = not (blank x)
 
-onto_twice : (x y : ℕ) (parts : List (List ℕ)) → filter written (onto_first x (onto_first y parts)) ≡ onto x (filter written (onto_first y parts))
-onto_twice x y [] = refl
-onto_twice x y (w ∷ ws) =
-    let two : eqb (length (x ∷ y ∷ w)) 0 ≡ false = grind (arith, nat_tests) in
-    let one : eqb (length (y ∷ w)) 0 ≡ false = grind (arith, nat_tests) in
-    rw (two, one)
+abbrev Begun : List ℕ → List (List ℕ) → Type 0
+Begun [] ws = ws ≡ []
+Begun (y ∷ ys) ws = ws ≡ up_to blank (y ∷ ys) ∷ words_of (from blank (y ∷ ys))
 
--- the parts of xs, and of xs behind a byte x that is not blank
-record Split (xs : List ℕ) : Type 0 where
-  all : filter written (slice_split blank xs) ≡ words_of xs
-  behind : (x : ℕ) → filter written (onto_first x (slice_split blank xs)) ≡ joins x xs (words_of xs)
+begun_step : (x : ℕ) (xs : List ℕ) (b : Bool) → blank x ≡ b → Begun (from solid xs) (words_of xs) → Begun (from solid (x ∷ xs)) (words_of (x ∷ xs))
+begun_step x xs true e h = simp e h
+begun_step x xs false e h = simp e (word_first x xs)
 
-split_step : (y : ℕ) (ys : List ℕ) (b : Bool) → blank y ≡ b → Split ys → Split (y ∷ ys)
-split_step y ys true e s = record { all = simp e s.all; behind = λ x. simp e (ap (λ ws. (x ∷ []) ∷ ws) s.all) }
-split_step y ys false e s = record { all = simp e (s.behind y); behind = λ x. simp e (onto_twice x y (slice_split blank ys) ∙ ap (onto x) (s.behind y)) }
+begun : (xs : List ℕ) → Begun (from solid xs) (words_of xs)
+begun [] = refl
+begun (x ∷ xs) = begun_step x xs (blank x) refl (begun xs)
 
-split : (xs : List ℕ) → Split xs
-split [] = record { all = refl; behind = λ x. refl }
-split (y ∷ ys) = split_step y ys (blank y) refl (split ys)
+begun_none : (ys : List ℕ) (ws : List (List ℕ)) → Begun ys ws → length ys ≡ 0 → ws ≡ []
+begun_none [] ws h n = h
+begun_none (y ∷ ys) ws h n = absurd (omega (arith, n))
 
-pub words_are : (xs : List ℕ) → filter written (slice_split blank xs) ≡ words_of xs
-words_are xs = (split xs).all
+begun_some : (ys : List ℕ) (ws : List (List ℕ)) → Begun ys ws → 0 < length ys → ws ≡ up_to blank ys ∷ words_of (from blank ys)
+begun_some [] ws h n = absurd (omega (arith, n))
+begun_some (y ∷ ys) ws h n = h
 
--- what three calls of `next` answer of a list, through v
-abbrev pub Three : {A B : Type 0} (v : A → B) → Option A → Option A → Option A → List B → Type 0
-Three v None b c all = all ≡ []
-Three v (Some x) None c all = all ≡ v x ∷ []
-Three v (Some x) (Some y) None all = all ≡ v x ∷ v y ∷ []
-Three {A} {B} v (Some x) (Some y) (Some z) all = (rest : List B) × (all ≡ v x ∷ v y ∷ v z ∷ rest)
+-- what a search for the first byte that passes answers
+abbrev pub place : (ℕ → Bool) → List ℕ → Option ℕ
+place p xs = cond (ltb (position_or_len p xs) (length xs)) (Some (position_or_len p xs)) None
 
-module _ {S A B : Type 0} (steps : S → Option A → S → Type 0) (v : A → B) where
-  abbrev Next : Option A → List B → S → Type 0
-  Next None all t = all ≡ []
-  Next (Some x) all t = (rest : List B) × (all ≡ v x ∷ rest) × AlwaysYields steps v t rest
+-- no word is left
+pub no_word : (xs : List ℕ) → place (λ x. not (blank x)) xs ≡ None → words_of xs ≡ []
+no_word xs e =
+    elim (ltb (position_or_len solid xs) (length xs)) as (λ b. ltb (position_or_len solid xs) (length xs) ≡ b → cond b (Some (position_or_len solid xs)) None ≡ None → words_of xs ≡ []) [
+      | true ↦ λ t z. cc
+      | false ↦ λ t z.
+          let past : length xs ≤ position_or_len solid xs = grind (arith, nat_tests) in
+          begun_none (from solid xs) (words_of xs) (begun xs) (ap length (from_is solid xs ∙ drop_all (position_or_len solid xs) xs past))
+    ] refl e
 
-  next : (r : Option A) (all : List B) (s t : S) → AlwaysYields steps v s all → steps s r t → Next r all t
-  next None [] s t h step = refl
-  next None (y ∷ ys) s t h step = absurd (h.0 t step)
-  next (Some x) [] s t h step = absurd (h x t step)
-  next (Some x) (y ∷ ys) s t h step = let e = h.1 x t step in (ys, ap (λ z. z ∷ ys) (sym e.0), e.1)
-
-  three_of : (a b c : Option A) (all : List B) (s t u w : S) → AlwaysYields steps v s all → steps s a t → steps t b u → steps u c w → Three v a b c all
-  three_of None b c all s t u w h one two last = next None all s t h one
-  three_of (Some x) None c all s t u w h one two last =
-      let e = next (Some x) all s t h one in
-      let f = next None e.0 t u e.2 two in
-      e.1 ∙ ap (λ ys. v x ∷ ys) f
-  three_of (Some x) (Some y) None all s t u w h one two last =
-      let e = next (Some x) all s t h one in
-      let f = next (Some y) e.0 t u e.2 two in
-      let g = next None f.0 u w f.2 last in
-      e.1 ∙ ap (λ ys. v x ∷ ys) (f.1 ∙ ap (λ ys. v y ∷ ys) g)
-  three_of (Some x) (Some y) (Some z) all s t u w h one two last =
-      let e = next (Some x) all s t h one in
-      let f = next (Some y) e.0 t u e.2 two in
-      let g = next (Some z) f.0 u w f.2 last in
-      (g.0, e.1 ∙ ap (λ ys. v x ∷ ys) (f.1 ∙ ap (λ ys. v y ∷ ys) g.1))
-
--- the same; the first fact is the clause `runs` of the call that made the chain, and tells what its steps are
-pub three : {S A B : Type 0} {steps : S → Option A → S → Type 0} {s t u w : S} {P : Run steps → Type 0} {all : List B} (v : A → B) (a b c : Option A) → EachRunFrom steps s P → YieldsList steps v s all → steps s a t → steps t b u → steps u c w → Three v a b c all
-three {steps} v a b c runs road one two last = three_of steps v a b c _ _ _ _ _ road.runs one two last
+-- the word that begins at i
+pub word_at : (xs : List ℕ) (i : ℕ) → place (λ x. not (blank x)) xs ≡ Some i → words_of xs ≡ take (position_or_len blank (drop i xs)) (drop i xs) ∷ words_of (drop (position_or_len blank (drop i xs)) (drop i xs))
+word_at xs i e =
+    elim (ltb (position_or_len solid xs) (length xs)) as (λ b. ltb (position_or_len solid xs) (length xs) ≡ b → cond b (Some (position_or_len solid xs)) None ≡ Some i → words_of xs ≡ take (position_or_len blank (drop i xs)) (drop i xs) ∷ words_of (drop (position_or_len blank (drop i xs)) (drop i xs))) [
+      | true ↦ λ t z.
+          let there : position_or_len solid xs < length xs = grind (arith, nat_tests) in
+          let is : position_or_len solid xs ≡ i = cc in
+          let tail : from solid xs ≡ drop i xs = from_is solid xs ∙ ap (λ k. drop k xs) is in
+          let some : 0 < length (from solid xs) = rw tail (simp length-drop (omega (arith, there, is))) in
+          begun_some (from solid xs) (words_of xs) (begun xs) some ∙ rw tail (rw (up_to_is blank (drop i xs), from_is blank (drop i xs)) refl)
+      | false ↦ λ t z. cc
+    ] refl e

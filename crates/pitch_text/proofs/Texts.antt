@@ -1,32 +1,18 @@
 -- Reading a text, a line at a time. Assumes nothing.
-use Rattle.std.proofs.Common.{◌≡◌, ℕ, ◌+◌, ◌<◌, ◌≤◌, true, false, cond, eqb, ◌⊎◌, List, [], ◌∷◌, length, get_or, drop, is_ok, Some, None, Ok, Err, Option, Result, Bor, sym, refl, ap, ◌∙◌, subst, inl, inr, arith}
+use Rattle.std.proofs.Common.{◌≡◌, ℕ, ◌+◌, ◌<◌, ◌≤◌, true, false, cond, eqb, ◌⊎◌, List, [], ◌∷◌, length, get_or, drop, is_ok, Ok, Err, Result, sym, refl, ap, ◌∙◌, subst, inl, inr, arith}
 use Rattle.std.proofs.lemmas.List.{drop_more, drop_all}
 use Rattle.std.proofs.lemmas.Bool.{both_ways}
 use Rattle.pitch_text.specs.declared.text.What.{What}
-use Rattle.pitch_text.specs.declared.text.What.TheVariants.{Memory, Words}
-use Rattle.pitch_text.specs.declared.text.Statement.{Statement}
+use Rattle.pitch_text.specs.declared.text.What.TheVariants.{Memory}
 use Rattle.pitch_text.specs.declared.text.TextFault.{TextFault}
 use Rattle.pitch.specs.Block.{Parts}
 use Rattle.pitch_text.specs.Words.{before, onto, lines_of}
-use Rattle.pitch_text.specs.Text.{Sofar, start, has_axis, has_screw, ready, said, pair_statement, statement_of, statement_in, line_taken, go_on, read_lines, at_end, NotAfter}
-use Rattle.pitch_text.proofs.Scans.{after, lines_more, Three}
+use Rattle.pitch_text.specs.Text.{Sofar, start, has_axis, has_screw, ready, statement_in, line_taken, go_on, read_lines, at_end, NotAfter}
+use Rattle.pitch_text.proofs.Scans.{after, lines_more}
 
 pub lines_cut : (xs : List ℕ) → 0 < length xs → lines_of xs ≡ before 10 xs ∷ lines_of (after 10 xs)
 lines_cut [] h = absurd (omega arith)
 lines_cut (x ∷ xs) h = lines_more x xs
-
--- what a line says, of the first three words that come
-abbrev pub stated : Option (Bor (List ℕ)) → Option (Bor (List ℕ)) → Option (Bor (List ℕ)) → Result (Option Statement) What
-stated None b c = Ok None
-stated (Some x) None c = Err Words
-stated (Some x) (Some y) None = said (pair_statement x.now y.now)
-stated (Some x) (Some y) (Some z) = Err Words
-
-pub stated_of : (a b c : Option (Bor (List ℕ))) (ws : List (List ℕ)) → Three (λ x. x.now) a b c ws → statement_of ws ≡ stated a b c
-stated_of None b c ws h = rw h
-stated_of (Some x) None c ws h = rw h
-stated_of (Some x) (Some y) None ws h = rw h
-stated_of (Some x) (Some y) (Some z) ws h = rw h.1
 
 -- a fault in the lines after the first n has a later line
 not_after : (k n : ℕ) (s : Sofar) (ls : List (List ℕ)) → k ≤ n → NotAfter k (read_lines n s ls)

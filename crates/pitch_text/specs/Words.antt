@@ -1,5 +1,5 @@
 -- Lines, words and numbers in a list of bytes.
-use Rattle.std.specs.Prelude.{◌≡◌, ◌≢◌, ℕ, ◌+◌, ◌-◌, ◌*◌, Bool, cond, ◌&&◌, ◌||◌, ◌⊎◌, List, [], ◌∷◌, ℤ, pos, neg_ℤ, Some, None, Ok, Err, Option, Result, ◌==◌, nat_eq, nat_le, slice_index}
+use Rattle.std.specs.Prelude.{◌≡◌, ◌≢◌, ℕ, ◌+◌, ◌-◌, ◌*◌, Bool, cond, ◌&&◌, ◌||◌, ◌⊎◌, List, [], ◌∷◌, length, take, ℤ, pos, neg_ℤ, Some, None, Ok, Err, Option, Result, ◌==◌, nat_eq, nat_le, slice_index}
 use Rattle.std.specs.Option.{option_map, option_and_then}
 use Rattle.std.specs.Str.{IsUtf8}
 
@@ -10,6 +10,10 @@ up_to p (x ∷ xs) = cond (p x) [] (x ∷ up_to p xs)
 
 abbrev pub before : ℕ → List ℕ → List ℕ
 before b xs = up_to (λ x. nat_eq x b) xs
+
+-- a line without the line feed at its end
+abbrev pub without_feed : List ℕ → List ℕ
+without_feed xs = cond (nat_le 1 (length xs) && slice_index xs (length xs - 1) == 10) (take (length xs - 1) xs) xs
 
 -- one more byte in front of the first piece
 abbrev pub onto : ℕ → List (List ℕ) → List (List ℕ)

@@ -3,7 +3,7 @@ ghost use Rattle.std.specs.Prelude.{◌≡◌, ℕ, length, Some};
 ghost use Rattle.pitch_text.specs.Words.{lines_of, numeral, signed_in};
 ghost use Rattle.pitch_text.specs.Text.{message_of, what_of, fault_text, axis_statement, screw_statement, errors_statement, pair_statement, statement_in, sofar_of, line_taken, Takes, at_end, read_text, Reads};
 
-use crate::words::{before, is_blank, number, signed};
+use crate::words::{before, next_word, number, signed, without_feed};
 use pitch::table::{Axis, Entry, Table, TableFault};
 use std::alloc::Global;
 use std::fmt;
@@ -137,12 +137,13 @@ fn pair_statement(first: &[u8], second: &[u8]) -> Result<Statement, What>
 fn statement_in(line: &[u8]) -> Result<Option<Statement>, What>
     ensures { result ≡ statement_in line.now }
 {
-    let said = before(line, b'#');
-    let mut words = said.split(|b| is_blank(*b)).filter(|word| !word.is_empty());
-    match (words.next(), words.next(), words.next()) {
-        (None, _, _) => Ok(None),
-        (Some(first), Some(second), None) => pair_statement(first, second).map(Some),
-        _ => Err(What::Words),
+    let Some((first, rest)) = next_word(before(line, b'#')) else {
+        return Ok(None);
+    };
+    let (second, rest) = next_word(rest).ok_or(What::Words)?;
+    match next_word(rest) {
+        None => pair_statement(first, second).map(Some),
+        Some(_) => Err(What::Words),
     }
 }
 
@@ -194,7 +195,7 @@ pub fn read_table(heap: Global, text: &[u8]) -> Result<Table, TextFault>
     for piece in text.split_inclusive(|b| *b == b'\n') {
         line += 1;
         reading = reading
-            .take(heap, before(piece, b'\n'))
+            .take(heap, without_feed(piece))
             .map_err(|what| TextFault { line, what })?;
     }
     table_of(reading, line)

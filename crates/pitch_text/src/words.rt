@@ -1,6 +1,6 @@
-// Words and numbers in bytes.
-ghost use Rattle.std.specs.Prelude.{◌≡◌};
-ghost use Rattle.pitch_text.specs.Words.{before, blank, IsParsed, numeral, signed_in};
+// Lines, words and numbers in bytes.
+ghost use Rattle.std.specs.Prelude.{◌≡◌, ◌∷◌, [], MatchOption};
+ghost use Rattle.pitch_text.specs.Words.{before, without_feed, blank, words_of, IsParsed, numeral, signed_in};
 
 use std::str::{self, FromStr};
 
@@ -12,10 +12,31 @@ pub(crate) fn before(s: &[u8], b: u8) -> &[u8]
     &s[..end]
 }
 
-pub(crate) fn is_blank(b: u8) -> bool
+// A line without the line feed at its end.
+pub(crate) fn without_feed(line: &[u8]) -> &[u8]
+    ensures { result.now ≡ without_feed line.now }
+{
+    match line {
+        [bare @ .., b'\n'] => bare,
+        _ => line,
+    }
+}
+
+fn is_blank(b: u8) -> bool
     ensures { result ≡ blank b }
 {
     matches!(b, b' ' | b'\t' | b'\r')
+}
+
+// The first word, and what stands after it.
+// Kept: no `split` at blanks, which has an empty part for each of them and so takes about twice the time.
+pub(crate) fn next_word(s: &[u8]) -> Option<(&[u8], &[u8])>
+    ensures { MatchOption result (words_of s.now ≡ []) (λ r. words_of s.now ≡ r.0.now ∷ words_of r.1.now) }
+{
+    let start = s.iter().position(|b| !is_blank(*b))?;
+    let word = &s[start..];
+    let end = word.iter().position(|b| is_blank(*b)).unwrap_or(word.len());
+    Some(word.split_at(end))
 }
 
 // A number as the library reads it, but for a plus sign in front.
@@ -34,12 +55,12 @@ where
 pub(crate) fn number(word: &[u8]) -> Option<u16>
     ensures { result ≡ numeral 65535 word.now }
 {
-    parsed(word)
+    parsed::<u16>(word)
 }
 
 // A number of 16 bits, with a minus in front where it is below 0.
 pub(crate) fn signed(word: &[u8]) -> Option<i16>
     ensures { result ≡ signed_in word.now }
 {
-    parsed(word)
+    parsed::<i16>(word)
 }
