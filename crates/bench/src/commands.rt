@@ -59,9 +59,11 @@ fn write(heap: Global, p: &str, text: &str) -> Result<Command, Wrong> {
 fn receiver(heap: Global, keys: &mut Keys<'_>) -> Result<Command, Wrong> {
     keys.take("model", number::<u16>)?;
     let rule = keys.take("rule", str::parse)?;
+    let store = keys.text("store");
+    keys.none_left()?;
     Ok(Command::Receiver {
         rule: rule.unwrap_or(RuleName::Published),
-        store: keys.take("store", |text| Plan::read(heap, text))?,
+        store: store.map(|text| Plan::read(heap, text)).transpose()?,
     })
 }
 

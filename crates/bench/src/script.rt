@@ -38,6 +38,11 @@ impl<'a> Keys<'a> {
         }
     }
 
+    /// Takes a key out.
+    pub(crate) fn text(&mut self, key: &str) -> Option<&'a str> {
+        self.0.remove(key)
+    }
+
     /// Takes a key out, and reads its value.
     pub(crate) fn take<T, F: FnOnce(&'a str) -> Result<T, Wrong>>(
         &mut self,
@@ -46,7 +51,7 @@ impl<'a> Keys<'a> {
     ) -> Result<Option<T>, Wrong>
         requires { F.IsAlwaysCallable read }
     {
-        self.0.remove(key).map(read).transpose()
+        self.text(key).map(read).transpose()
     }
 
     /// Refuses the keys that are left.

@@ -1,7 +1,6 @@
 -- Lines, words and numbers in a list of bytes.
-use Rattle.std.specs.Prelude.{◌≡◌, ◌≢◌, ℕ, ◌+◌, ◌-◌, ◌*◌, Bool, cond, ◌&&◌, ◌||◌, ◌⊎◌, List, [], ◌∷◌, length, take, ℤ, pos, neg_ℤ, Some, None, Ok, Err, Option, Result, ◌==◌, nat_eq, nat_le, slice_index}
+use Rattle.std.specs.Prelude.{ℕ, ◌+◌, ◌-◌, ◌*◌, Bool, cond, ◌&&◌, ◌||◌, List, [], ◌∷◌, length, take, ℤ, pos, neg_ℤ, Some, None, Option, ◌==◌, nat_eq, nat_le, slice_index}
 use Rattle.std.specs.Option.{option_map, option_and_then}
-use Rattle.std.specs.Str.{IsUtf8}
 
 -- the bytes before the first that passes a test, or all
 abbrev pub up_to : (ℕ → Bool) → List ℕ → List ℕ
@@ -39,6 +38,14 @@ abbrev pub words_of : List ℕ → List (List ℕ)
 words_of [] = []
 words_of (x ∷ xs) = cond (blank x) (words_of xs) (joins x xs (words_of xs))
 
+-- a blank or the `#` before a comment
+abbrev pub ends_word : ℕ → Bool
+ends_word x = blank x || x == 35
+
+-- the words of a line up to its comment
+abbrev pub spoken : List ℕ → List (List ℕ)
+spoken xs = words_of (before 35 xs)
+
 abbrev pub digit : ℕ → Bool
 digit x = nat_le 48 x && nat_le x 57
 
@@ -60,8 +67,3 @@ numeral limit (x ∷ xs) = read_on limit 0 (x ∷ xs)
 abbrev pub signed_in : List ℕ → Option ℤ
 signed_in [] = None
 signed_in (x ∷ xs) = cond (x == 45) (option_map (λ n. neg_ℤ (pos n)) (numeral 32768 xs)) (option_map pos (numeral 32767 (x ∷ xs)))
-
--- what `parse` gives of the bytes, or none where they begin with a plus, are no text or no number
-abbrev pub IsParsed : {T E : Type 0} → (List ℕ → Result T E → Type 0) → List ℕ → Option T → Type 0
-IsParsed gives w (Some x) = (slice_index w 0 ≢ 43) × gives w (Ok x)
-IsParsed {T} {E} gives w None = (slice_index w 0 ≡ 43) ⊎ ((¬ (IsUtf8 w)) ⊎ ((e : E) × gives w (Err e)))

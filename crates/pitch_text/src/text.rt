@@ -3,7 +3,7 @@ ghost use Rattle.std.specs.Prelude.{◌≡◌, ℕ, length, Some};
 ghost use Rattle.pitch_text.specs.Words.{lines_of, numeral, signed_in};
 ghost use Rattle.pitch_text.specs.Text.{message_of, what_of, fault_text, axis_statement, screw_statement, errors_statement, pair_statement, statement_in, sofar_of, line_taken, Takes, at_end, read_text, Reads};
 
-use crate::words::{before, next_word, number, signed, without_feed};
+use crate::words::{next_word, number, signed, without_feed};
 use pitch::table::{Axis, Entry, Table, TableFault};
 use std::alloc::Global;
 use std::fmt;
@@ -111,7 +111,9 @@ fn axis_statement(word: &[u8]) -> Result<Statement, What>
 fn screw_statement(word: &[u8]) -> Result<Statement, What>
     ensures { result ≡ screw_statement (numeral 65535 word.now) }
 {
-    number(word).map(Statement::Numbered).ok_or(What::Screw)
+    number(word, 65535)
+        .map(Statement::Numbered)
+        .ok_or(What::Screw)
 }
 
 fn errors_statement(first: &[u8], second: &[u8]) -> Result<Statement, What>
@@ -137,7 +139,7 @@ fn pair_statement(first: &[u8], second: &[u8]) -> Result<Statement, What>
 fn statement_in(line: &[u8]) -> Result<Option<Statement>, What>
     ensures { result ≡ statement_in line.now }
 {
-    let Some((first, rest)) = next_word(before(line, b'#')) else {
+    let Some((first, rest)) = next_word(line) else {
         return Ok(None);
     };
     let (second, rest) = next_word(rest).ok_or(What::Words)?;
