@@ -7,23 +7,23 @@ use bottoms::memory::Memory;
 use cells::fault::StoreFault;
 use cells::store::Store;
 
-/// Writes to a `Vec` that is lent as memory: its length and its room stay.
+/// Writes to a `Vec` that is lent as memory: its room and its length stay.
 pub fn write_vec_memory(
     buf: &mut Vec<u8>,
     wished: usize,
     p: usize,
     bytes: &[u8],
 ) -> Result<(), StoreFault>
-    ensures length { vec_len buf.new ≡ vec_len buf.old }
     ensures room { vec_capacity buf.new ≡ vec_capacity buf.old }
+    ensures length { vec_len buf.new ≡ vec_len buf.old }
 {
     Memory::new(buf, wished).write(p, bytes)
 }
 
-/// Writes to a `Vec` that is lent as flash: its length and its room stay.
+/// Writes to a `Vec` that is lent as flash: its room and its length stay.
 pub fn write_vec_flash(buf: &mut Vec<u8>, p: usize, bytes: &[u8]) -> Result<(), StoreFault>
-    ensures length { vec_len buf.new ≡ vec_len buf.old }
     ensures room { vec_capacity buf.new ≡ vec_capacity buf.old }
+    ensures length { vec_len buf.new ≡ vec_len buf.old }
 {
     Flash::new(buf).write(p, bytes)
 }
