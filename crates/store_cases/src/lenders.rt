@@ -1,6 +1,8 @@
 // What the lender of a buffer learns once the bottom over it is let go.
 ghost use Rattle.std.specs.Prelude.{◌≡◌, is_ok, if◌then◌else◌, vec_len, vec_capacity};
-ghost use Rattle.bottoms.specs.Memories.{cell_size, memory_buffer};
+ghost use Rattle.cells.specs.Calls.{ReadBy, write_answer};
+ghost use Rattle.bottoms.specs.Memories.{cell_size, memory, memory_buffer};
+ghost use Rattle.bottoms.specs.Pages.{flash};
 
 use bottoms::flash::Flash;
 use bottoms::memory::Memory;
@@ -8,6 +10,7 @@ use cells::fault::StoreFault;
 use cells::store::Store;
 
 /// Writes to a `Vec` that is lent as memory: its room and its length stay.
+// What is written is told of a slice, below: the check does not follow the bytes of a `Vec` that is lent on as a slice into a store.
 pub fn write_vec_memory(
     buf: &mut Vec<u8>,
     wished: usize,
@@ -16,6 +19,7 @@ pub fn write_vec_memory(
 ) -> Result<(), StoreFault>
     ensures room { vec_capacity buf.new ≡ vec_capacity buf.old }
     ensures length { vec_len buf.new ≡ vec_len buf.old }
+    ensures answer { result ≡ write_answer (memory (cell_size wished) buf.old.items) p bytes.now }
 {
     Memory::new(buf, wished).write(p, bytes)
 }
@@ -24,6 +28,7 @@ pub fn write_vec_memory(
 pub fn write_vec_flash(buf: &mut Vec<u8>, p: usize, bytes: &[u8]) -> Result<(), StoreFault>
     ensures room { vec_capacity buf.new ≡ vec_capacity buf.old }
     ensures length { vec_len buf.new ≡ vec_len buf.old }
+    ensures answer { result ≡ write_answer (flash buf.old.items) p bytes.now }
 {
     Flash::new(buf).write(p, bytes)
 }
@@ -35,7 +40,8 @@ pub fn read_then_write(
     p: usize,
     out: &mut [u8],
 ) -> Result<(), StoreFault>
-    ensures { buf.new ≡ (if is_ok result then memory_buffer (cell_size wished) buf.old p out.new else buf.old) }
+    ensures read { ReadBy (memory (cell_size wished) buf.old) p out.old result out.new }
+    ensures written { buf.new ≡ (if is_ok result then memory_buffer (cell_size wished) buf.old p out.new else buf.old) }
 {
     Memory::new(buf, wished).read(p, out)?;
     Memory::new(buf, wished).write(p, out)
