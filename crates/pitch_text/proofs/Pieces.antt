@@ -75,9 +75,13 @@ module _ (xs x rest : List ℕ) (i : ℕ) (is : xs ≡ x ++ rest) (len : length 
             rw last (sym (line_is ∙ whole))
       ]
 
-piece : (xs x rest : List ℕ) (i : ℕ) → xs ≡ x ++ rest → length x ≡ min (i + 1) (length xs) → IsFirstMatchOrLen (λ y. eqb y 10) xs i → 0 < length xs → lines_of xs ≡ without_feed x ∷ lines_of rest
-piece xs x rest i is len first some =
-    let f : before 10 xs ≡ without_feed x = fronts (λ y. eqb y 10) xs x rest i is len first ∙ sym (bare xs x rest i is len first) in
+-- a way to cut a piece that leaves what stands before its line feed
+abbrev Cuts : (List ℕ → List ℕ) → Type 0
+Cuts v = (xs x rest : List ℕ) (i : ℕ) → xs ≡ x ++ rest → length x ≡ min (i + 1) (length xs) → IsFirstMatchOrLen (λ y. eqb y 10) xs i → v x ≡ before 10 x
+
+piece : (v : List ℕ → List ℕ) → Cuts v → (xs x rest : List ℕ) (i : ℕ) → xs ≡ x ++ rest → length x ≡ min (i + 1) (length xs) → IsFirstMatchOrLen (λ y. eqb y 10) xs i → 0 < length xs → lines_of xs ≡ v x ∷ lines_of rest
+piece v cuts xs x rest i is len first some =
+    let f : before 10 xs ≡ v x = fronts (λ y. eqb y 10) xs x rest i is len first ∙ sym (cuts xs x rest i is len first) in
     let b : after 10 xs ≡ rest = backs (λ y. eqb y 10) xs x rest i is len first in
     lines_cut xs some ∙ rw (f, b)
 
@@ -87,20 +91,28 @@ module _ {F : Type 0} (g : Mut F (Bor ℕ × Unit {0}) Bool) where
       (λ x. (split_inclusive_rest s ≡ x.now ++ split_inclusive_rest t) × ((i : ℕ) × (length x.now ≡ min (i + 1) (length (split_inclusive_rest s)))
       × ((p : ℕ → Bool) → ComputesKey g p (split_inclusive_callee s) → ComputesKey g p (split_inclusive_callee t) × IsFirstMatchOrLen p (split_inclusive_rest s) i)) × (0 < length (split_inclusive_rest s)))
 
-  road : (s : SplitInclusive ℕ F) → ComputesKey g (λ y. eqb y 10) (split_inclusive_callee s) → YieldsList pieces (λ x. without_feed x.now) s (lines_of (split_inclusive_rest s))
-  road s = YieldsList-from_shown_while pieces (λ x. without_feed x.now) (λ t. lines_of (split_inclusive_rest t)) (λ t. ComputesKey g (λ y. eqb y 10) (split_inclusive_callee t))
+  road : (v : List ℕ → List ℕ) → Cuts v → (s : SplitInclusive ℕ F) → ComputesKey g (λ y. eqb y 10) (split_inclusive_callee s) → YieldsList pieces (λ x. v x.now) s (lines_of (split_inclusive_rest s))
+  road v cuts s = YieldsList-from_shown_while pieces (λ x. v x.now) (λ t. lines_of (split_inclusive_rest t)) (λ t. ComputesKey g (λ y. eqb y 10) (split_inclusive_callee t))
       (λ t u h k. ap (λ xs. length (lines_of xs)) (nil_from_length (split_inclusive_rest t) k.0))
-      (λ t x u h k. let m = k.1.2 (λ y. eqb y 10) h in (m.0, piece (split_inclusive_rest t) x.now (split_inclusive_rest u) k.1.0 k.0 k.1.1 m.1 k.2))
+      (λ t x u h k. let m = k.1.2 (λ y. eqb y 10) h in (m.0, piece v cuts (split_inclusive_rest t) x.now (split_inclusive_rest u) k.1.0 k.0 k.1.1 m.1 k.2))
       s
 
-  starts : (s : SplitInclusive ℕ F) (f : F) (text : List ℕ) → split_inclusive_rest s ≡ text → split_inclusive_callee s ≡ f → ((y : ℕ) (b : Bool) (q : F) → CalledAt g f y b q → (q ≡ f) × (b ≡ eqb y 10)) → YieldsList pieces (λ x. without_feed x.now) s (lines_of text)
-  starts s f text rest callee tests =
-      subst (λ xs. YieldsList pieces (λ x. without_feed x.now) s (lines_of xs)) rest (road s (subst (ComputesKey g (λ y. eqb y 10)) (sym callee) (always_returns_same g (λ a r. r ≡ eqb a.0.now 10) f (λ a r q k. let m = tests a.0.now r q (record { shown = a.0; shows = refl; called = k }) in (m.1, m.0)))))
+  starts : (v : List ℕ → List ℕ) → Cuts v → (s : SplitInclusive ℕ F) (f : F) (text : List ℕ) → split_inclusive_rest s ≡ text → split_inclusive_callee s ≡ f → ((y : ℕ) (b : Bool) (q : F) → CalledAt g f y b q → (q ≡ f) × (b ≡ eqb y 10)) → YieldsList pieces (λ x. v x.now) s (lines_of text)
+  starts v cuts s f text rest callee tests =
+      subst (λ xs. YieldsList pieces (λ x. v x.now) s (lines_of xs)) rest (road v cuts s (subst (ComputesKey g (λ y. eqb y 10)) (sym callee) (always_returns_same g (λ a r. r ≡ eqb a.0.now 10) f (λ a r q k. let m = tests a.0.now r q (record { shown = a.0; shows = refl; called = k }) in (m.1, m.0)))))
 
 -- in a `for` over the pieces of a text: the piece that comes is the next line, and at the end no line is left
 module _ {F : Type 0} {g : Mut F (Bor ℕ × Unit {0}) Bool} (s t u : SplitInclusive ℕ F) (f : F) (text : List ℕ) (xs : List (Bor (List ℕ))) (r : Option (Bor (List ℕ))) (so_far : Yields (pieces g) s xs t) (rest : split_inclusive_rest s ≡ text) (callee : split_inclusive_callee s ≡ f) (tests : (y : ℕ) (b : Bool) (q : F) → CalledAt g f y b q → (q ≡ f) × (b ≡ eqb y 10)) (step : pieces g t r u) where
-  pub piece_turn : (x : Bor (List ℕ)) → r ≡ Some x → (length xs < length (lines_of text)) × (without_feed x.now ≡ get_or (lines_of text) (length xs) (without_feed x.now))
-  piece_turn x is = YieldsList-turn (starts g s f text rest callee tests) xs t so_far r u x is step
+  turn : (v : List ℕ → List ℕ) → Cuts v → (x : Bor (List ℕ)) → r ≡ Some x → (length xs < length (lines_of text)) × (v x.now ≡ get_or (lines_of text) (length xs) (v x.now))
+  turn v cuts x is = YieldsList-turn (starts g v cuts s f text rest callee tests) xs t so_far r u x is step
+
+  -- by what stands before its line feed
+  pub piece_turn : (x : Bor (List ℕ)) → r ≡ Some x → (length xs < length (lines_of text)) × (before 10 x.now ≡ get_or (lines_of text) (length xs) (before 10 x.now))
+  piece_turn = turn (before 10) (λ xs x rest i is len first. refl)
+
+  -- by what a line feed taken off its end leaves
+  pub line_turn : (x : Bor (List ℕ)) → r ≡ Some x → (length xs < length (lines_of text)) × (without_feed x.now ≡ get_or (lines_of text) (length xs) (without_feed x.now))
+  line_turn = turn without_feed bare
 
   pub piece_end : r ≡ None → length xs ≡ length (lines_of text)
-  piece_end is = (YieldsList-end (starts g s f text rest callee tests) xs t so_far r u is step).1
+  piece_end is = (YieldsList-end (starts g without_feed bare s f text rest callee tests) xs t so_far r u is step).1

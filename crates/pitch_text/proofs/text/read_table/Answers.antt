@@ -4,12 +4,12 @@ use Rattle.pitch_text.specs.declared.text.What.{What}
 use Rattle.pitch_text.specs.Words.{without_feed, lines_of}
 use Rattle.pitch_text.specs.Text.{statement_in, line_taken, sofar_of, read_text}
 use Rattle.pitch_text.proofs.Texts.{lines_le, read_line, refused, read_end}
-use Rattle.pitch_text.proofs.Pieces.{piece_turn, piece_end}
+use Rattle.pitch_text.proofs.Pieces.{line_turn, piece_end}
 use Rattle.pitch_text.proofs.text.read_table.Goals as goal
 use Rattle.pitch_text.proofs.text.read_table.Goals.{In-Some}
 
 turn : (c : In-Some) → (length c.loop-piece.yielded < length (lines_of c.args.text.now)) × (without_feed c.in-Some.piece.now ≡ get_or (lines_of c.args.text.now) (length c.loop-piece.yielded) (without_feed c.in-Some.piece.now))
-turn c = piece_turn _ _ _ _ c.args.text.now c.loop-piece.yielded c.next.result c.loop-piece.yielded_by (search rules) (search rules) (λ x b q k. search (rules, tests)) c.next.ensures.steps c.in-Some.piece c.in-Some.is
+turn c = line_turn _ _ _ _ c.args.text.now c.loop-piece.yielded c.next.result c.loop-piece.yielded_by (search rules) (search rules) (λ x b q k. search (rules, tests)) c.next.ensures.steps c.in-Some.piece c.in-Some.is
 
 pub overflow_add-line : goal.overflow_add-line
 overflow_add-line c =
